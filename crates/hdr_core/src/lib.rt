@@ -1,0 +1,11 @@
+//! Texts, lists and the outside world: what every crate of jheader stands on.
+#![tactic(auto)]
+
+mod compared;
+mod list;
+mod memory;
+mod text;
+
+pub use list::List;
+pub use memory::Memory;
+pub use text::Text;
