@@ -5,7 +5,9 @@ mod compared;
 mod list;
 mod memory;
 mod text;
+mod try_copy;
 
 pub use list::List;
 pub use memory::Memory;
 pub use text::Text;
+pub use try_copy::TryCopy;

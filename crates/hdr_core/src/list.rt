@@ -43,3 +43,22 @@ impl<T> List<T> {
         items
     }
 }
+
+impl<T: PartialEq> PartialEq for List<T> {
+    ghost use lib.Pointwise.{pointwise};
+    ghost use Rattle.std.specs.Cmp.Lexicographic.{lists_per};
+
+    ghost eq = { pointwise T.eq };
+
+    ghost laws = { lists_per T.laws };
+
+    fn eq(&self, other: &List<T>) -> bool {
+        self.items() == other.items()
+    }
+}
+
+impl<T: Eq> Eq for List<T> {
+    ghost use Rattle.std.specs.Cmp.Lexicographic.{lists_equiv};
+
+    ghost laws = { lists_equiv T.Eq.laws };
+}

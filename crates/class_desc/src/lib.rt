@@ -1,0 +1,14 @@
+//! Descriptions of class files (JVMS 4), and what is said of them.
+//!
+//! A description has no pool, no offsets and only the attributes that the product keeps.
+#![tactic(auto)]
+
+mod annotation;
+mod attribute;
+mod class;
+mod value;
+
+pub use annotation::{AnnDesc, ElemPair, ElemValue};
+pub use attribute::{Attr, ComponentDesc, InnerEntry, ParamEntry};
+pub use class::{ClassDesc, FieldDesc, MethodDesc};
+pub use value::Value;
