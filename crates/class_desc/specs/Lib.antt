@@ -1,0 +1,3 @@
+pub mod ClassFile
+pub mod Names
+pub mod Pool

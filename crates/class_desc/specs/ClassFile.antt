@@ -1,0 +1,169 @@
+-- The grammar of class files (JVMS 4.1), over a free pool: its entries may stand in any order, be unused or repeated.
+-- For now every attribute is Code, which no description keeps, and texts, descriptors and entries are those of IsPlain, is_field_descriptor, is_method_descriptor and Entry.
+use Rattle.std.specs.Prelude.{◌≡◌, ℕ, ◌+◌, ◌<◌, ◌≤◌, ◌^◌, ◌==◌, ◌&&◌, nat_le, Bool, true, List, [], ◌∷◌, ◌++◌, length, map, codes, Option, Some, None, MatchOption}
+use Rattle.std.specs.List.{flat_map, list_all, AllByRecursion, IsDistinct}
+use Rattle.std.specs.Int.{w16, w32, to_be_bytes}
+use Rattle.class_desc.specs.declared.attribute.Attr.{Attr}
+use Rattle.class_desc.specs.declared.class.ClassDesc.{ClassDesc}
+use Rattle.class_desc.specs.declared.class.FieldDesc.{FieldDesc}
+use Rattle.class_desc.specs.declared.class.MethodDesc.{MethodDesc}
+use Rattle.class_desc.specs.Names.{is_text, is_among, is_class_name, is_field_name, is_method_name}
+use Rattle.class_desc.specs.Pool.{Entry, entry_bytes, EntryFits, NamesText, NamesClass}
+
+-- a text of the bytes 21 to 7e, as every text that something kept names is for now
+abbrev pub is_plain : List ℕ → Bool
+is_plain text = list_all (λ b. nat_le 33 b && nat_le b 126) text
+
+-- a primitive type (JVMS 4.3.2), for now the only types of fields
+abbrev pub is_field_descriptor : List ℕ → Bool
+is_field_descriptor (letter ∷ []) = is_among (codes "BCDFIJSZ") letter
+is_field_descriptor [] = Bool.false
+is_field_descriptor (letter ∷ b ∷ bs) = Bool.false
+
+-- no parameters and no result (JVMS 4.3.3), for now the only descriptor of methods
+abbrev pub is_method_descriptor : List ℕ → Bool
+is_method_descriptor text = is_text text (codes "()V")
+
+-- the number is that of a plain text of this form
+pub record NamesForm (pool : List Entry) (is_form : List ℕ → Bool) (n : ℕ) (text : List ℕ) : Type 0 where
+  pub fits : n < 2 ^ 16
+  pub named : NamesText pool n text
+  pub plain : is_plain text ≡ true
+  pub form : is_form text ≡ true
+
+-- the number is that of a class with this plain name
+pub record NamesPlainClass (pool : List Entry) (n : ℕ) (name : List ℕ) : Type 0 where
+  pub fits : n < 2 ^ 16
+  pub named : NamesClass pool n name
+  pub plain : is_plain name ≡ true
+  pub form : is_class_name name ≡ true
+
+-- the name of the class that has no superclass
+abbrev pub object_name : List ℕ
+object_name = codes "java/lang/Object"
+
+-- the superclass: the number 0 for java/lang/Object alone, which has none (JVMS 4.1)
+abbrev pub NamesSuper : List Entry → ℕ → List ℕ → Option (List ℕ) → Type 0
+NamesSuper pool n name None = (n ≡ 0) × (is_text name object_name ≡ true)
+NamesSuper pool n name (Some super) = (is_text name object_name ≡ Bool.false) × NamesPlainClass pool n super
+
+-- numbers of classes, each with its name
+abbrev pub NamesClasses : List Entry → List ℕ → List (List ℕ) → Type 0
+NamesClasses pool [] [] = Unit {0}
+NamesClasses pool (n ∷ ns) (name ∷ names) = NamesPlainClass pool n name × NamesClasses pool ns names
+NamesClasses pool [] (name ∷ names) = ⊥
+NamesClasses pool (n ∷ ns) [] = ⊥
+
+-- an attribute as it stands in the file (JVMS 4.7): the number of its name, and its body
+pub record RawAttribute : Type 0 where
+  pub name : ℕ
+  pub body : List ℕ
+
+abbrev pub attribute_bytes : RawAttribute → List ℕ
+attribute_bytes a = to_be_bytes w16 a.name ++ (to_be_bytes w32 (length a.body) ++ a.body)
+
+-- an attribute that is passed: for now it is Code, wherever it stands (JVMS 4.7.3)
+pub record IsPassed (pool : List Entry) (a : RawAttribute) : Type 0 where
+  pub name : NamesForm pool (λ text. is_text text (codes "Code")) a.name (codes "Code")
+  pub fits : length a.body < 2 ^ 32
+
+-- a counted list of attributes, of which these are kept
+pub record AttributesSpell (pool : List Entry) (kept : List Attr) (bytes : List ℕ) : Type 0 where
+  pub raw : List RawAttribute
+  pub count : length raw < 2 ^ 16
+  pub whole : bytes ≡ to_be_bytes w16 (length raw) ++ flat_map attribute_bytes raw
+  pub each : AllByRecursion (IsPassed pool) raw
+  pub none_kept : kept ≡ []
+
+-- a field or a method (JVMS 4.5, 4.6), whose name and descriptor have these forms
+pub record MemberSpells (pool : List Entry) (is_name is_descriptor : List ℕ → Bool) (flags : ℕ) (name descriptor : List ℕ) (kept : List Attr) (bytes : List ℕ) : Type 0 where
+  pub name_number : ℕ
+  pub descriptor_number : ℕ
+  pub attributes : List ℕ
+  pub flags_fit : flags < 2 ^ 16
+  pub whole : bytes ≡ to_be_bytes w16 flags ++ (to_be_bytes w16 name_number ++ (to_be_bytes w16 descriptor_number ++ attributes))
+  pub named : NamesForm pool is_name name_number name
+  pub described : NamesForm pool is_descriptor descriptor_number descriptor
+  pub attributed : AttributesSpell pool kept attributes
+
+abbrev pub FieldSpells : List Entry → FieldDesc → List ℕ → Type 0
+FieldSpells pool f bytes = MemberSpells pool is_field_name is_field_descriptor f.flags f.name f.descriptor f.attrs bytes
+
+abbrev pub MethodSpells : List Entry → MethodDesc → List ℕ → Type 0
+MethodSpells pool m bytes = MemberSpells pool is_method_name is_method_descriptor m.flags m.name m.descriptor m.attrs bytes
+
+-- the items, one behind the other
+abbrev pub EachSpells : {A : Type 0} → (A → List ℕ → Type 0) → List A → List ℕ → Type 0
+EachSpells Spells [] bytes = bytes ≡ []
+EachSpells Spells (item ∷ items) bytes = (front : List ℕ) × (rest : List ℕ) × (bytes ≡ front ++ rest) × Spells item front × EachSpells Spells items rest
+
+-- the items behind their count
+pub record CountedSpells {A : Type 0} (Spells : A → List ℕ → Type 0) (items : List A) (bytes : List ℕ) : Type 0 where
+  pub rest : List ℕ
+  pub count : length items < 2 ^ 16
+  pub whole : bytes ≡ to_be_bytes w16 (length items) ++ rest
+  pub each : EachSpells Spells items rest
+
+-- what tells members of a class apart: the name and the descriptor
+abbrev pub Key : Type 0
+Key = List ℕ × List ℕ
+
+abbrev pub is_key : Key → Key → Bool
+is_key a b = is_text a.0 b.0 && is_text a.1 b.1
+
+abbrev pub field_key : FieldDesc → Key
+field_key f = (f.name, f.descriptor)
+
+abbrev pub method_key : MethodDesc → Key
+method_key m = (m.name, m.descriptor)
+
+-- the parts of a class file behind the pool, each as its bytes
+pub record Parts : Type 0 where
+  pub this : ℕ
+  pub super : ℕ
+  pub interfaces : List ℕ
+  pub fields : List ℕ
+  pub methods : List ℕ
+  pub attributes : List ℕ
+
+abbrev pub magic : ℕ
+magic = 0xCAFE_BABE
+
+-- the bytes of a class file that has this pool and these parts, in the order of JVMS 4.1
+abbrev pub file_bytes : ClassDesc → List Entry → Parts → List ℕ
+file_bytes d pool p =
+    to_be_bytes w32 magic ++ (to_be_bytes w16 d.minor ++ (to_be_bytes w16 d.major
+    ++ (to_be_bytes w16 (length pool + 1) ++ (flat_map entry_bytes pool
+    ++ (to_be_bytes w16 d.flags ++ (to_be_bytes w16 p.this ++ (to_be_bytes w16 p.super
+    ++ (to_be_bytes w16 (length p.interfaces) ++ (flat_map (to_be_bytes w16) p.interfaces
+    ++ (p.fields ++ (p.methods ++ p.attributes)))))))))))
+
+-- the bytes are a class file over this pool, and the description is what its kept items name
+pub record SpellsOver (d : ClassDesc) (bytes : List ℕ) (pool : List Entry) : Type 0 where
+  pub parts : Parts
+  pub whole : bytes ≡ file_bytes d pool parts
+  pub entries : AllByRecursion EntryFits pool
+  pub pool_count : length pool + 1 < 2 ^ 16
+  pub minor : d.minor < 2 ^ 16
+  -- Java 1.1 to Java SE 17
+  pub major : (45 ≤ d.major) × (d.major ≤ 61)
+  -- without MODULE, the highest bit
+  pub flags : d.flags < 2 ^ 15
+  pub this : NamesPlainClass pool parts.this d.name
+  pub super : NamesSuper pool parts.super d.name d.super_name
+  pub super_fits : parts.super < 2 ^ 16
+  pub interface_count : length parts.interfaces < 2 ^ 16
+  pub interfaces : NamesClasses pool parts.interfaces d.interfaces
+  pub fields : CountedSpells (FieldSpells pool) d.fields parts.fields
+  pub distinct_fields : IsDistinct is_key (map field_key d.fields)
+  pub methods : CountedSpells (MethodSpells pool) d.methods parts.methods
+  pub distinct_methods : IsDistinct is_key (map method_key d.methods)
+  pub attributes : AttributesSpell pool d.attrs parts.attributes
+
+-- the bytes spell the description
+abbrev pub ClassSpells : ClassDesc → List ℕ → Type 0
+ClassSpells d bytes = (pool : List Entry) × SpellsOver d bytes pool
+
+-- some file spells the description
+abbrev pub IsValid : ClassDesc → Type 0
+IsValid d = (bytes : List ℕ) × AllByRecursion (λ b. b < 2 ^ 8) bytes × ClassSpells d bytes
