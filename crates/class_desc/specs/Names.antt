@@ -1,5 +1,5 @@
 -- The forms of the names in class files (JVMS 4.2, with the product's limits).
-use Rattle.std.specs.Prelude.{ℕ, Bool, not, ◌&&◌, ◌||◌, ◌==◌, nat_le, List, [], ◌∷◌, codes, nat_eq}
+use Rattle.std.specs.Prelude.{ℕ, Bool, not, ◌&&◌, ◌||◌, ◌==◌, List, length, codes, nat_eq}
 use Rattle.std.specs.List.{list_all, list_any, slice_split}
 use lib.Pointwise.{pointwise}
 
@@ -11,13 +11,9 @@ is_text = pointwise nat_eq
 abbrev pub is_among : List ℕ → ℕ → Bool
 is_among bytes b = list_any (λ x. x == b) bytes
 
-abbrev pub is_empty : List ℕ → Bool
-is_empty [] = Bool.true
-is_empty (b ∷ bs) = Bool.false
-
 -- an unqualified name: not empty, and without the bytes . ; [ / (JVMS 4.2.2)
 abbrev pub is_unqualified : List ℕ → Bool
-is_unqualified name = not (is_empty name) && list_all (λ b. not (is_among (codes ".;[/") b)) name
+is_unqualified name = not (length name == 0) && list_all (λ b. not (is_among (codes ".;[/") b)) name
 
 -- a binary name in internal form: unqualified names with / between them (JVMS 4.2.1)
 abbrev pub is_class_name : List ℕ → Bool

@@ -1,0 +1,140 @@
+ghost use Rattle.std.specs.Prelude.{◌≡◌, ◌≤◌, ◌^◌, length};
+ghost use Rattle.class_desc.specs.Names.{is_text};
+ghost use Rattle.class_desc.specs.ClassFile.{object_name};
+ghost use Rattle.class_reader.specs.Reading.{Gives, Answers, times, version_at, class_flags_at, class_at, super_at, interfaces_at, class_of};
+
+use crate::fault::{ClassFault, ReadErr};
+use crate::forms::Form;
+use crate::pool::Pool;
+use crate::reader::Reader;
+use class_desc::ClassDesc;
+use hdr_core::{List, Text};
+use std::alloc::Global;
+
+const MAGIC: u32 = 0xcafe_babe;
+
+/// The flag of a module (JVMS 4.1).
+const MODULE: u16 = 0x8000;
+
+fn is_object(name: &[u8]) -> bool
+    ensures { result ≡ is_text name.now object_name }
+{
+    name == b"java/lang/Object".as_slice()
+}
+
+impl<'a> Reader<'a> {
+    /// The magic, the minor and the major version.
+    #[tactic(auto, unfolding(crate::specs::Reading::version_at))]
+    fn version(&mut self) -> Result<(u16, u16), ReadErr>
+        ensures { Gives (λ version. version) result self.new (version_at self.old) }
+    {
+        if self.u32()? != MAGIC {
+            return Err(ReadErr::Fault(ClassFault::NOT_YET));
+        }
+        let minor = self.u16()?;
+        let major = self.u16()?;
+        if major < 45 || major > 61 {
+            return Err(ReadErr::Fault(ClassFault::NOT_YET));
+        }
+        Ok((minor, major))
+    }
+
+    #[tactic(auto, unfolding(crate::specs::Reading::class_flags_at))]
+    fn class_flags(&mut self) -> Result<u16, ReadErr>
+        ensures { Gives (λ flags. flags) result self.new (class_flags_at self.old) }
+    {
+        let flags = self.u16()?;
+        if flags >= MODULE {
+            return Err(ReadErr::Fault(ClassFault::NOT_YET));
+        }
+        Ok(flags)
+    }
+
+    /// The superclass of the class of this name: java/lang/Object alone has none.
+    #[tactic(auto, unfolding(crate::specs::Reading::super_at, crate::specs::Reading::form_test))]
+    fn super_name(
+        &mut self,
+        alloc: Global,
+        pool: &Pool<'a>,
+        name: &[u8],
+    ) -> Result<Option<Text>, ReadErr>
+        ensures { Gives (λ super. super) result self.new (super_at pool.now name.now self.old) }
+    {
+        let number = self.u16()?;
+        if number == 0 {
+            if is_object(name) {
+                return Ok(None);
+            }
+            return Err(ReadErr::Fault(ClassFault::NOT_YET));
+        }
+        let super_name = Form::ClassName.check(pool.class(number))?;
+        if is_object(name) {
+            return Err(ReadErr::Fault(ClassFault::NOT_YET));
+        }
+        Ok(Some(Text::of(alloc, super_name)?))
+    }
+
+    fn class_names(
+        &mut self,
+        alloc: Global,
+        pool: &Pool<'a>,
+        count: u16,
+    ) -> Result<Vec<Text>, ReadErr>
+        ensures { Gives (λ v. v.items) result self.new (times (class_at pool.now) count self.old) }
+    {
+        let mut names = Vec::new(alloc);
+        for _ in 0..count {
+            let name = self.class_name(pool)?;
+            names.push(Text::of(alloc, name)?)?;
+        }
+        Ok(names)
+    }
+
+    /// The superinterfaces, their count first.
+    #[tactic(auto, unfolding(crate::specs::Reading::interfaces_at))]
+    fn interfaces(&mut self, alloc: Global, pool: &Pool<'a>) -> Result<List<Text>, ReadErr>
+        ensures { Gives (λ names. names) result self.new (interfaces_at pool.now self.old) }
+    {
+        let count = self.u16()?;
+        Ok(List::of(self.class_names(alloc, pool, count)?))
+    }
+}
+
+/// The class that the bytes spell, or the first check that fails.
+#[tactic(auto, unfolding(crate::specs::Reading::class_of))]
+fn class_from(alloc: Global, bytes: &[u8]) -> Result<ClassDesc, ReadErr>
+    ensures { Answers (λ d. d) result (class_of bytes.now) }
+{
+    let mut reader = Reader::of(bytes);
+    let (minor, major) = reader.version()?;
+    let pool = reader.pool(alloc)?;
+    let flags = reader.class_flags()?;
+    let name = reader.class_name(&pool)?;
+    let super_name = reader.super_name(alloc, &pool, name)?;
+    let interfaces = reader.interfaces(alloc, &pool)?;
+    let fields = reader.fields(alloc, &pool)?;
+    let methods = reader.methods(alloc, &pool)?;
+    let attrs = reader.attributes(alloc, &pool)?;
+    if !reader.is_at_end() {
+        return Err(ReadErr::Fault(ClassFault::NOT_YET));
+    }
+    Ok(ClassDesc {
+        minor,
+        major,
+        flags,
+        name: Text::of(alloc, name)?,
+        super_name,
+        interfaces,
+        fields,
+        methods,
+        attrs,
+    })
+}
+
+/// Reads a class file (JVMS 4.1) of Java 1.1 to Java SE 17.
+pub fn read_class(alloc: Global, bytes: &[u8]) -> Result<ClassDesc, ReadErr>
+    requires { length bytes.now ≤ 2 ^ 24 }
+    ensures { Answers (λ d. d) result (class_of bytes.now) }
+{
+    class_from(alloc, bytes)
+}

@@ -1,0 +1,14 @@
+//! Class files (JVMS 4) to descriptions.
+//!
+//! A [`Reader`](reader) goes over the bytes from front to back; each of its methods reads one item.
+#![tactic(auto)]
+
+mod class;
+mod fault;
+mod forms;
+mod member;
+mod pool;
+mod reader;
+
+pub use class::read_class;
+pub use fault::{ClassFault, ClassKind, ReadErr};
