@@ -1,0 +1,15 @@
+-- What a call to the outside world did to the count of faults, and to what is told there.
+use Rattle.std.specs.Prelude.{◌≡◌, ℕ, ◌+◌, ◌-◌, ◌^◌, ◌≤◌, min, List, ◌++◌, Option, Some, None}
+
+-- A count of 64 bits rose. It stands still at its end.
+abbrev pub Rose : ℕ → ℕ → Type 0
+Rose before after = min (before + 1) (2 ^ 64 - 1) ≤ after
+
+-- what is told, with more bytes at its end, where it is told
+abbrev pub grown : Option (List ℕ) → List ℕ → Option (List ℕ)
+grown None more = None
+grown (Some told) more = Some (told ++ more)
+
+-- What is told has grown by a front of the text: by nothing, by all of it, or by what lies between.
+abbrev pub GrewByFront : Option (List ℕ) → Option (List ℕ) → List ℕ → Type 0
+GrewByFront before after text = (front : List ℕ) × (rest : List ℕ) × (front ++ rest ≡ text) × (after ≡ grown before front)
