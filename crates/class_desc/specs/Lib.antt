@@ -1,3 +1,5 @@
 pub mod ClassFile
+pub mod Layout
 pub mod Names
 pub mod Pool
+pub mod Strip

@@ -1,0 +1,31 @@
+-- What remains of a class for its clients: no private members, no class initialiser.
+-- For now descriptions have no attributes, so no entry of InnerClasses has to go.
+use Rattle.std.specs.Prelude.{ℕ, ◌==◌, ◌&&◌, Bool, not, bit_and, List, filter, codes}
+use Rattle.class_desc.specs.declared.class.ClassDesc.{ClassDesc}
+use Rattle.class_desc.specs.declared.class.FieldDesc.{FieldDesc}
+use Rattle.class_desc.specs.declared.class.MethodDesc.{MethodDesc}
+use Rattle.class_desc.specs.Names.{is_text}
+
+-- whether ACC_PRIVATE is among the flags (JVMS 4.5, 4.6)
+abbrev pub is_private : ℕ → Bool
+is_private flags = not (bit_and flags 0x0002 == 0)
+
+abbrev pub stays_field : FieldDesc → Bool
+stays_field f = not (is_private f.flags)
+
+-- the class initialiser goes by its name alone (JVMS 2.9.2)
+abbrev pub stays_method : MethodDesc → Bool
+stays_method m = not (is_private m.flags) && not (is_text m.name (codes "<clinit>"))
+
+abbrev pub strip_class : ClassDesc → ClassDesc
+strip_class d = record {
+  minor = d.minor;
+  major = d.major;
+  flags = d.flags;
+  name = d.name;
+  super_name = d.super_name;
+  interfaces = d.interfaces;
+  fields = filter stays_field d.fields;
+  methods = filter stays_method d.methods;
+  attrs = d.attrs;
+}
