@@ -1,10 +1,12 @@
 //! Texts, lists and the outside world: what every crate of jheader stands on.
 #![tactic(auto)]
 
+mod calls;
 mod code;
 mod compared;
 mod diagnostics;
 mod errors;
+mod failing;
 mod files;
 mod gate;
 mod held;
@@ -12,18 +14,22 @@ mod list;
 mod memory;
 mod outs;
 mod sink;
+mod sure;
 mod text;
 mod try_copy;
 
+pub use calls::Calls;
 pub use code::Code;
 pub use diagnostics::{Diag, print_diags};
 pub use errors::{CallErr, FileErr};
+pub use failing::{MemFiles, MemOuts, MemSink};
 pub use files::{Files, LONGEST_FILE};
 pub use gate::{Gate, NoGate};
-pub use held::{HeldFile, SureFiles, SureOuts, SureSink};
+pub use held::HeldFile;
 pub use list::List;
 pub use memory::Memory;
 pub use outs::Outs;
 pub use sink::{Sink, write_whole};
+pub use sure::{SureFiles, SureOuts, SureSink};
 pub use text::Text;
 pub use try_copy::TryCopy;
