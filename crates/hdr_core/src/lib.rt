@@ -19,6 +19,7 @@ mod sink;
 mod stream;
 mod sure;
 mod text;
+mod threads;
 mod try_copy;
 
 pub use calls::Calls;
@@ -37,4 +38,5 @@ pub use sink::{Sink, write_whole};
 pub use stream::StdSink;
 pub use sure::{SureFiles, SureOuts, SureSink};
 pub use text::Text;
+pub use threads::crosses_threads;
 pub use try_copy::TryCopy;
