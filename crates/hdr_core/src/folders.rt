@@ -1,0 +1,196 @@
+ghost use Rattle.std.specs.Prelude.{◌≡◌, ◌≤◌, ◌+◌, true, None, length, vec_len, IfOk, OnOk};
+ghost use Rattle.hdr_core.specs.Faults.{fault_count};
+
+use crate::errors::{CallErr, FileErr};
+use crate::faults::Faults;
+use crate::files::{Files, LONGEST_FILE};
+use crate::outs::Outs;
+use std::alloc::Global;
+use std::fs::{self, File};
+use std::io::{self, Error, ErrorKind, Read, Write};
+use std::path::Path;
+use std::rt;
+
+// How many entries may be met below a root.
+const MOST_ENTRIES: usize = 4_194_304;
+
+// How many bytes are asked for at once.
+const PIECE: usize = 65_536;
+
+/// The files of the system's folders. It doesn't say what they hold.
+///
+/// A root that is a symbolic link is followed, since the user named it. Below a root symbolic links are passed over, and
+/// so is all that is neither a file nor a folder. A root that isn't there has no files. A name that isn't UTF-8 is a
+/// fault, and so is a root below which more than 4,194,304 entries are met.
+#[derive(Drop)]
+pub struct DirFiles<R> {
+    rt: R,
+    faults: Faults,
+}
+
+impl<R: rt::Files + AllocGlobal + Clone + Drop> DirFiles<R> {
+    pub fn of(rt: R) -> DirFiles<R>
+        ensures { ⟦<DirFiles<R> as Files>⟧.faults result ≡ 0 }
+    {
+        DirFiles {
+            rt,
+            faults: Faults::none(),
+        }
+    }
+}
+
+impl<R: rt::Files + AllocGlobal + Clone + Drop> Files for DirFiles<R> {
+    ghost held = { λ _. None };
+
+    ghost faults = { λ files. fault_count files.faults };
+
+    fn list(&mut self, alloc: Global, root: &str) -> Result<Vec<String>, CallErr> {
+        match list_below(&self.rt, alloc, root, MOST_ENTRIES) {
+            Ok(paths) => Ok(paths),
+            Err(error) => Err(self.faults.refuse(&error)),
+        }
+    }
+
+    fn read(&mut self, path: &str, into: &mut Vec<u8>) -> Result<(), FileErr> {
+        match read_file(&self.rt, path, into) {
+            Ok(true) => Ok(()),
+            Ok(false) => Err(FileErr::TooLong),
+            Err(error) => match self.faults.refuse(&error) {
+                CallErr::Failed => Err(FileErr::Failed),
+                CallErr::Memory => Err(FileErr::Memory),
+            },
+        }
+    }
+}
+
+// The files that were met, the folders that are still to be entered, and how many more entries may be met.
+#[derive(Drop)]
+struct Walk {
+    files: Vec<String>,
+    folders: Vec<String>,
+    left: usize,
+}
+
+fn list_below<R: rt::Files + AllocGlobal + Clone + Drop>(
+    rt: &R,
+    alloc: Global,
+    root: &str,
+    most: usize,
+) -> io::Result<Vec<String>> {
+    let mut walk = Walk {
+        files: Vec::new(alloc),
+        folders: Vec::new(alloc),
+        left: most,
+    };
+    match fs::metadata(rt, root) {
+        Ok(about) if about.is_dir() => walk.folders.push(String::from_str(alloc, root)?)?,
+        Ok(about) if about.is_file() => walk.files.push(String::from_str(alloc, root)?)?,
+        Ok(_) => {}
+        Err(error) if is_absent(&error) => {}
+        Err(error) => return Err(error),
+    }
+    while let Some(folder) = walk.folders.pop() {
+        walk.enter(rt, alloc, folder.as_str())?;
+    }
+    Ok(walk.files)
+}
+
+fn is_absent(error: &Error) -> bool {
+    matches!(error.kind(), ErrorKind::NotFound | ErrorKind::NotADirectory)
+}
+
+impl Walk {
+    fn enter<R: rt::Files + AllocGlobal + Clone + Drop>(
+        &mut self,
+        rt: &R,
+        alloc: Global,
+        folder: &str,
+    ) -> io::Result<()>
+        ensures { OnOk result (self.new.left + vec_len self.new.folders ≤ self.old.left + vec_len self.old.folders) }
+    {
+        for entry in fs::read_dir(rt, folder)? {
+            let entry = entry?;
+            if self.left == 0 {
+                return Err(Error::from(ErrorKind::FileTooLarge));
+            }
+            self.left -= 1;
+            let kind = entry.file_type()?;
+            if kind.is_dir() {
+                self.folders
+                    .push(String::from_str(alloc, entry.path().as_str())?)?;
+            } else if kind.is_file() {
+                self.files
+                    .push(String::from_str(alloc, entry.path().as_str())?)?;
+            }
+        }
+        Ok(())
+    }
+}
+
+// Reads a whole file, and says whether it is short enough. Of a longer one no more is read than shows that it is longer.
+fn read_file<R: rt::Files + AllocGlobal>(rt: &R, path: &str, into: &mut Vec<u8>) -> io::Result<bool>
+    ensures { IfOk result (λ fits. fits ≡ true → length into.new.items ≤ LONGEST_FILE) }
+{
+    into.clear();
+    let mut file = File::open(rt, path)?;
+    let mut buffer = Vec::new(rt.alloc());
+    buffer.resize(PIECE, 0u8)?;
+    while into.len() <= LONGEST_FILE {
+        let room = PIECE.min(LONGEST_FILE + 1 - into.len());
+        let count = file.read(&mut buffer[..room])?;
+        if count == 0 {
+            return Ok(true);
+        }
+        into.extend_from_slice(&buffer[..count])?;
+    }
+    Ok(false)
+}
+
+/// Writes files into the system's folders, and makes the folders that a path needs. It doesn't say what was written.
+#[derive(Drop)]
+pub struct DirOuts<R> {
+    rt: R,
+    faults: Faults,
+}
+
+impl<R: rt::Files + Drop> DirOuts<R> {
+    pub fn of(rt: R) -> DirOuts<R>
+        ensures { ⟦<DirOuts<R> as Outs>⟧.faults result ≡ 0 }
+    {
+        DirOuts {
+            rt,
+            faults: Faults::none(),
+        }
+    }
+}
+
+impl<R: rt::Files + Drop> Outs for DirOuts<R> {
+    ghost written = { λ _. None };
+
+    ghost faults = { λ outs. fault_count outs.faults };
+
+    fn put(&mut self, path: &str, bytes: &[u8]) -> Result<(), CallErr> {
+        match write_file(&self.rt, path, bytes) {
+            Ok(()) => Ok(()),
+            Err(error) => Err(self.faults.refuse(&error)),
+        }
+    }
+}
+
+fn write_file<R: rt::Files>(rt: &R, path: &str, bytes: &[u8]) -> io::Result<()> {
+    if let Some(folder) = Path::new(path).parent() {
+        fs::create_dir_all(rt, folder)?;
+    }
+    write_bytes(File::create(rt, path)?, bytes)
+}
+
+fn write_bytes<W: Write + Drop>(mut file: W, bytes: &[u8]) -> io::Result<()> {
+    let mut at = 0;
+    while at < bytes.len() {
+        match file.write(&bytes[at..])? {
+            0 => return Err(Error::from(ErrorKind::WriteZero)),
+            count => at += count,
+        }
+    }
+    file.flush()
+}
