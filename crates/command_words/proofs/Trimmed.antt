@@ -25,7 +25,7 @@ trimmed_same (b ∷ (c ∷ cs)) never = ap (before_trimmed b) (trimmed_same (c �
 cut : (m r : List ℕ) (n : ℕ) → FindsCharSuffix 47 m (Some n) → r ≡ take (length m - n) m → trimmed r ≡ trimmed m
 cut m r n found is =
     let i = length m - n in
-    let last : drop i m ≡ 47 ∷ [] = drop_at_char 47 m i (length m) found.1 (lit< tt) ∙ ap (λ (t : List ℕ). 47 ∷ t) (drop_all m) in
+    let last : drop i m ≡ 47 ∷ [] = drop_at_char 47 m i (length m) found.1 (lit< tt) ∙ ap (λ (t : List ℕ). 47 ∷ t) (drop_all (length m) m (omega arith)) in
     let whole : m ≡ r ++ 47 ∷ [] = sym (take-append-drop i m) ∙ ap (λ (t : List ℕ). take i m ++ t) last ∙ ap (λ (t : List ℕ). t ++ 47 ∷ []) (sym is) in
     sym (ap trimmed whole ∙ trimmed-slash r)
 
