@@ -1,3 +1,5 @@
 pub mod Keys
+pub mod Laws
 pub mod Members
+pub mod Numbers
 pub mod Times

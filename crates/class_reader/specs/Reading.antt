@@ -232,9 +232,9 @@ methods_at pool bytes = do
   count ← number_at w16 bytes
   members_at as_method (method_at pool) [] count.0 count.1
 
--- the class of a whole file
-unfoldable pub class_of : List ℕ → Result ClassDesc ClassFault
-class_of bytes = do
+-- the class at the front
+unfoldable pub file_at : List ℕ → Read ClassDesc
+file_at bytes = do
   version ← version_at bytes
   pool ← pool_at version.1
   flags ← class_flags_at pool.1
@@ -244,16 +244,20 @@ class_of bytes = do
   fields ← fields_at pool.0 interfaces.1
   methods ← methods_at pool.0 fields.1
   attrs ← attributes_at pool.0 methods.1
-  if length attrs.1 == 0
-      then Ok (record {
-        minor = version.0.0;
-        major = version.0.1;
-        flags = flags.0;
-        name = name.0;
-        super_name = super.0;
-        interfaces = interfaces.0;
-        fields = fields.0;
-        methods = methods.0;
-        attrs = attrs.0;
-      })
-      else Err not_yet
+  Ok (record {
+    minor = version.0.0;
+    major = version.0.1;
+    flags = flags.0;
+    name = name.0;
+    super_name = super.0;
+    interfaces = interfaces.0;
+    fields = fields.0;
+    methods = methods.0;
+    attrs = attrs.0;
+  }, attrs.1)
+
+-- the class of a whole file: no byte follows it
+unfoldable pub class_of : List ℕ → Result ClassDesc ClassFault
+class_of bytes = do
+  d ← file_at bytes
+  if length d.1 == 0 then Ok d.0 else Err not_yet

@@ -1,7 +1,7 @@
 ghost use Rattle.std.specs.Prelude.{◌≡◌, ◌≤◌, ◌^◌, length};
 ghost use Rattle.class_desc.specs.Names.{is_text};
 ghost use Rattle.class_desc.specs.ClassFile.{object_name};
-ghost use Rattle.class_reader.specs.Reading.{Gives, Answers, times, version_at, class_flags_at, class_at, super_at, interfaces_at, class_of};
+ghost use Rattle.class_reader.specs.Reading.{Gives, Answers, times, version_at, class_flags_at, class_at, super_at, interfaces_at, file_at, class_of};
 
 use crate::fault::{ClassFault, ReadErr};
 use crate::forms::Form;
@@ -98,6 +98,33 @@ impl<'a> Reader<'a> {
         let count = self.u16()?;
         Ok(List::of(self.class_names(alloc, pool, count)?))
     }
+
+    /// The class, to the end of its attributes.
+    #[tactic(auto, unfolding(crate::specs::Reading::file_at))]
+    fn class(&mut self, alloc: Global) -> Result<ClassDesc, ReadErr>
+        ensures { Gives (λ d. d) result self.new (file_at self.old) }
+    {
+        let (minor, major) = self.version()?;
+        let pool = self.pool(alloc)?;
+        let flags = self.class_flags()?;
+        let name = self.class_name(&pool)?;
+        let super_name = self.super_name(alloc, &pool, name)?;
+        let interfaces = self.interfaces(alloc, &pool)?;
+        let fields = self.fields(alloc, &pool)?;
+        let methods = self.methods(alloc, &pool)?;
+        let attrs = self.attributes(alloc, &pool)?;
+        Ok(ClassDesc {
+            minor,
+            major,
+            flags,
+            name: Text::of(alloc, name)?,
+            super_name,
+            interfaces,
+            fields,
+            methods,
+            attrs,
+        })
+    }
 }
 
 /// The class that the bytes spell, or the first check that fails.
@@ -106,29 +133,12 @@ fn class_from(alloc: Global, bytes: &[u8]) -> Result<ClassDesc, ReadErr>
     ensures { Answers (λ d. d) result (class_of bytes.now) }
 {
     let mut reader = Reader::of(bytes);
-    let (minor, major) = reader.version()?;
-    let pool = reader.pool(alloc)?;
-    let flags = reader.class_flags()?;
-    let name = reader.class_name(&pool)?;
-    let super_name = reader.super_name(alloc, &pool, name)?;
-    let interfaces = reader.interfaces(alloc, &pool)?;
-    let fields = reader.fields(alloc, &pool)?;
-    let methods = reader.methods(alloc, &pool)?;
-    let attrs = reader.attributes(alloc, &pool)?;
-    if !reader.is_at_end() {
-        return Err(ReadErr::Fault(ClassFault::NOT_YET));
+    let class = reader.class(alloc)?;
+    if reader.is_at_end() {
+        Ok(class)
+    } else {
+        Err(ReadErr::Fault(ClassFault::NOT_YET))
     }
-    Ok(ClassDesc {
-        minor,
-        major,
-        flags,
-        name: Text::of(alloc, name)?,
-        super_name,
-        interfaces,
-        fields,
-        methods,
-        attrs,
-    })
 }
 
 /// Reads a class file (JVMS 4.1) of Java 1.1 to Java SE 17.
