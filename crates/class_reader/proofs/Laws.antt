@@ -157,7 +157,7 @@ pub record Several {A : Type 0} (Spells : A → List ℕ → Type 0) (count : �
   pub length_is : length items ≡ count
   pub each : EachSpells Spells items text
 
-same_after : (m n : ℕ) → suc m ≡ suc n → m ≡ n
+pub same_after : (m n : ℕ) → suc m ≡ suc n → m ≡ n
 same_after m n e = cc
 
 none_read : {A : Type 0} (Spells : A → List ℕ → Type 0) (items : List A) (text : List ℕ) → Several Spells 0 items text → Given [] items text
