@@ -1,12 +1,12 @@
 -- Attributes, of which nothing is kept for now.
-use Rattle.std.proofs.Common.{◌≡◌, ℕ, ◌^◌, ◌<◌, Bool, true, List, [], ◌∷◌, ◌++◌, length, codes, Ok, refl, sym, ap, subst, ◌∙◌, append_assoc, arith}
-use Rattle.std.specs.List.{flat_map, AllByRecursion}
+use Rattle.std.proofs.Common.{◌≡◌, ℕ, ◌^◌, Bool, List, [], ◌++◌, length, codes, Ok, refl, sym, ap, subst, ◌∙◌, arith}
+use Rattle.std.specs.List.{flat_map}
 use Rattle.std.specs.Int.{w16, w32, to_be_bytes}
 use Rattle.std.specs.Cmp.Lexicographic.{same_text}
 use Rattle.class_desc.specs.declared.attribute.Attr.{Attr}
 use Rattle.class_desc.specs.Names.{is_text}
 use Rattle.class_desc.specs.Pool.{Entry}
-use Rattle.class_desc.specs.ClassFile.{NamesForm, RawAttribute, attribute_bytes, IsPassed, AttributesSpell}
+use Rattle.class_desc.specs.ClassFile.{NamesForm, attribute_bytes, IsPassed, AttributesSpell}
 use Rattle.class_reader.specs.Reading.{◌>>=◌, number_at, piece_at, attribute_at, pass_all, attributes_at}
 use Rattle.class_reader.proofs.Laws.{Reads, reads_as, Then, reads_then, Made, reads_made, SomeSpelled, AllSpelled, reads_passing}
 use Rattle.class_reader.proofs.Numbers.{NumberSpells, reads_u16, reads_u32, PieceSpells, reads_piece}
@@ -51,11 +51,11 @@ from_passed pool none text s =
 pub reads_attribute : (pool : List Entry) → Reads (attribute_at pool) (SomeSpelled (IsPassed pool) attribute_bytes)
 unfolding attribute_at
 reads_attribute pool = reads_as (SomeSpelled (IsPassed pool) attribute_bytes)
-  (reads_then (λ start name rest. number_at w32 rest >>= λ count. piece_at count.0 count.1 >>= λ body. Ok (tt, body.1)) (reads_text pool is_code) (λ start name.
-  reads_then (λ start count rest. piece_at count rest >>= λ body. Ok (tt, body.1)) reads_u32 (λ start count.
-  reads_made (λ body. tt) (reads_piece count))))
-  (to_passed pool)
-  (from_passed pool)
+    (reads_then (λ start name rest. number_at w32 rest >>= λ count. piece_at count.0 count.1 >>= λ body. Ok (tt, body.1)) (reads_text pool is_code) (λ start name.
+    reads_then (λ start count rest. piece_at count rest >>= λ body. Ok (tt, body.1)) reads_u32 (λ start count.
+    reads_made (λ body. tt) (reads_piece count))))
+    (to_passed pool)
+    (from_passed pool)
 
 abbrev Attributes : List Entry → ℕ → List Attr → List ℕ → Type 0
 Attributes pool count = Made (λ (none : Unit {0}). []) (AllSpelled (IsPassed pool) attribute_bytes count)
@@ -84,6 +84,6 @@ from_attributes pool kept text s = record {
 pub reads_attributes : (pool : List Entry) → Reads (attributes_at pool) (AttributesSpell pool)
 unfolding attributes_at
 reads_attributes pool = reads_as (AttributesSpell pool)
-  (reads_then (λ start count rest. pass_all (attribute_at pool) count rest >>= λ passed. Ok ([], passed.1)) reads_u16 (λ start count. reads_made (λ none. []) (reads_passing (reads_attribute pool) count)))
-  (to_attributes pool)
-  (from_attributes pool)
+    (reads_then (λ start count rest. pass_all (attribute_at pool) count rest >>= λ passed. Ok ([], passed.1)) reads_u16 (λ start count. reads_made (λ none. []) (reads_passing (reads_attribute pool) count)))
+    (to_attributes pool)
+    (from_attributes pool)

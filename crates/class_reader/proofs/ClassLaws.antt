@@ -1,8 +1,9 @@
 -- The whole class: what is read is spelled, and what is spelled is read.
-use Rattle.std.proofs.Common.{◌≡◌, ℕ, suc, ◌+◌, ◌^◌, ◌<◌, ◌≤◌, ◌||◌, Bool, true, false, true≢false, cond, ltb, eqb, List, [], ◌∷◌, ◌++◌, length, map, Option, Some, None, Result, Ok, Err, IfOk, refl, sym, ap, subst, ◌∙◌, append_assoc, append-nil, arith, inl, inr}
+use Rattle.std.proofs.Common.{◌≡◌, ℕ, suc, ◌+◌, ◌^◌, ◌<◌, ◌≤◌, ◌||◌, Bool, true, false, true≢false, cond, ltb, eqb, List, [], ◌∷◌, ◌++◌, length, Option, Some, None, Result, Ok, Err, refl, sym, ap, subst, ◌∙◌, append_assoc, append-nil, arith, inl, inr}
+use Rattle.std.specs.Prelude.{IfOk}
 use Rattle.std.specs.List.{flat_map}
 use Rattle.std.specs.Int.{w16, w32, to_be_bytes}
-use Rattle.std.proofs.lemmas.Bool.{eqb-true, eqb-false, eq-eqb, ltb-true, ltb-false, le-ltb}
+use Rattle.std.proofs.lemmas.Bool.{eqb-true, eq-eqb, ltb-true, ltb-false, le-ltb}
 use Rattle.std.proofs.lemmas.List.{nil_from_length}
 use Rattle.std.proofs.lemmas.List.Concat.{flat_map-cons}
 use Rattle.class_desc.specs.declared.attribute.Attr.{Attr}
@@ -11,9 +12,10 @@ use Rattle.class_desc.specs.declared.class.FieldDesc.{FieldDesc}
 use Rattle.class_desc.specs.declared.class.MethodDesc.{MethodDesc}
 use Rattle.class_desc.specs.Names.{is_text, is_class_name}
 use Rattle.class_desc.specs.Pool.{Entry, ClassRef, entry_bytes, entry_of}
-use Rattle.class_desc.specs.ClassFile.{magic, object_name, NamesPlainClass, NamesSuper, NamesClasses, EachSpells, CountedSpells, FieldSpells, MethodSpells, field_key, method_key, AttributesSpell, Parts, file_bytes, SpellsOver, ClassSpells}
+use Rattle.class_desc.specs.ClassFile.{magic, object_name, NamesPlainClass, NamesSuper, NamesClasses, EachSpells, CountedSpells, FieldSpells, MethodSpells, field_key, method_key, AttributesSpell, Parts, SpellsOver, ClassSpells}
 use Rattle.class_reader.specs.declared.fault.ClassFault.{ClassFault}
-use Rattle.class_reader.specs.Reading.{◌>>=◌, Read, not_yet, number_at, times, version_at, pool_at, class_named, checked, class_at, class_flags_at, super_at, interfaces_at, fields_at, methods_at, attributes_at, file_at, class_of}
+use Rattle.class_reader.specs.declared.fault.ReadErr.{ReadErr}
+use Rattle.class_reader.specs.Reading.{◌>>=◌, Read, Answers, not_yet, number_at, version_at, pool_at, class_named, checked, class_at, class_flags_at, super_at, interfaces_at, fields_at, methods_at, attributes_at, file_at, class_of}
 use Rattle.class_reader.proofs.Laws.{IsBytes, bind_ok, ok_is, Reads, reads_as, Given, reads_given, Then, reads_then, Checked, reads_checked, Either, reads_if, Never, reads_never, Made, reads_made}
 use Rattle.class_reader.proofs.Numbers.{NumberSpells, reads_u16, reads_u32, reads_counted}
 use Rattle.class_reader.proofs.PoolLaws.{PoolSpells, reads_pool, Numbered, alone, passed, passes, to_class, from_class, reads_class}
@@ -62,18 +64,20 @@ to_version version text s = by_magic s.second.first
       where
         minor : ℕ
         minor = s.second.item
+
         major : ℕ
         major = s.second.second.item
+
         by_major : Either (is_outside s.second.second.item) Never (Given (s.second.item, s.second.second.item)) version s.second.second.rest → VersionSpells version text
         by_major (inl m) = absurd m.1
         by_major (inr m) = subst (λ v. VersionSpells v text) m.1.0 (record {
           minor = n.1.0;
           major = outside s.second.second.item m.0;
           whole = s.whole
-          ∙ ap (λ (t : List ℕ). t ++ s.rest) (s.first.1 ∙ ap (to_be_bytes w32) (eqb-true _ _ n.0))
-          ∙ ap (λ (t : List ℕ). to_be_bytes w32 magic ++ t) (s.second.whole
-          ∙ ap (λ (t : List ℕ). t ++ s.second.rest) n.1.1
-          ∙ ap (λ (t : List ℕ). to_be_bytes w16 s.second.item ++ t) (alone s.second.rest s.second.second.front s.second.second.rest (to_be_bytes w16 s.second.second.item) s.second.second.whole s.second.second.first.1 m.1.1));
+              ∙ ap (λ (t : List ℕ). t ++ s.rest) (s.first.1 ∙ ap (to_be_bytes w32) (eqb-true _ _ n.0))
+              ∙ ap (λ (t : List ℕ). to_be_bytes w32 magic ++ t) (s.second.whole
+              ∙ ap (λ (t : List ℕ). t ++ s.second.rest) n.1.1
+              ∙ ap (λ (t : List ℕ). to_be_bytes w16 s.second.item ++ t) (alone s.second.rest s.second.second.front s.second.second.rest (to_be_bytes w16 s.second.second.item) s.second.second.whole s.second.second.first.1 m.1.1));
         })
 
 from_version : (version : ℕ × ℕ) (text : List ℕ) → VersionSpells version text → VersionParts version text
@@ -103,12 +107,12 @@ from_version version text s = record {
 reads_version : Reads version_at VersionSpells
 unfolding version_at
 reads_version = reads_as VersionSpells
-  (reads_then (λ start first rest. cond (eqb first magic) (number_at w16 rest) (Err not_yet) >>= λ minor. number_at w16 minor.1 >>= λ major. cond (is_outside major.0) (Err not_yet) (Ok ((minor.0, major.0), major.1))) reads_u32 (λ start first.
-  reads_then (λ start minor rest. number_at w16 rest >>= λ major. cond (is_outside major.0) (Err not_yet) (Ok ((minor, major.0), major.1))) (reads_if (eqb first magic) reads_u16 (reads_never (λ bytes. not_yet))) (λ start minor.
-  reads_then (λ start major rest. cond (is_outside major) (Err not_yet) (Ok ((minor, major), rest))) reads_u16 (λ start major.
-  reads_if (is_outside major) (reads_never (λ bytes. not_yet)) (reads_given (minor, major))))))
-  to_version
-  from_version
+    (reads_then (λ start first rest. cond (eqb first magic) (number_at w16 rest) (Err not_yet) >>= λ minor. number_at w16 minor.1 >>= λ major. cond (is_outside major.0) (Err not_yet) (Ok ((minor.0, major.0), major.1))) reads_u32 (λ start first.
+    reads_then (λ start minor rest. number_at w16 rest >>= λ major. cond (is_outside major.0) (Err not_yet) (Ok ((minor, major.0), major.1))) (reads_if (eqb first magic) reads_u16 (reads_never (λ bytes. not_yet))) (λ start minor.
+    reads_then (λ start major rest. cond (is_outside major) (Err not_yet) (Ok ((minor, major), rest))) reads_u16 (λ start major.
+    reads_if (is_outside major) (reads_never (λ bytes. not_yet)) (reads_given (minor, major))))))
+    to_version
+    from_version
 
 -- ---- the flags
 
@@ -146,9 +150,9 @@ from_flags flags text s = record {
 reads_flags : Reads class_flags_at FlagsSpell
 unfolding class_flags_at
 reads_flags = reads_as FlagsSpell
-  (reads_then (λ start n rest. cond (ltb n (2 ^ 15)) (Ok (n, rest)) (Err not_yet)) reads_u16 (λ start n. reads_if (ltb n (2 ^ 15)) (reads_given n) (reads_never (λ bytes. not_yet))))
-  to_flags
-  from_flags
+    (reads_then (λ start n rest. cond (ltb n (2 ^ 15)) (Ok (n, rest)) (Err not_yet)) reads_u16 (λ start n. reads_if (ltb n (2 ^ 15)) (reads_given n) (reads_never (λ bytes. not_yet))))
+    to_flags
+    from_flags
 
 -- ---- the superclass
 
@@ -173,6 +177,7 @@ module _ (pool : List Entry) (name : List ℕ) where
     where
       text_is : s.rest ≡ [] → text ≡ to_be_bytes w16 s.item
       text_is e = alone text s.front s.rest (to_be_bytes w16 s.item) s.whole s.first.1 e
+
       some : (n : SomeSuper s.item super s.rest) → Either is_object Never (Given (Some n.item)) super s.rest → SuperSpells super text
       some n (inl never) = absurd never.1
       some n (inr g) = subst (λ o. SuperSpells o text) g.1.0 (record {
@@ -181,6 +186,7 @@ module _ (pool : List Entry) (name : List ℕ) where
         named = (g.0, to_class pool s.item n.item s.first.0 (passed is_class_name (class_named pool s.item) n.item n.passed));
         is = text_is g.1.1;
       })
+
       by : Either (eqb s.item 0) NoSuper (SomeSuper s.item) super s.rest → SuperSpells super text
       by (inl (z, inl g)) = subst (λ o. SuperSpells o text) g.1.0 (record { number = s.item; fits = s.first.0; named = (eqb-true _ _ z, g.0); is = text_is g.1.1 })
       by (inl (z, inr never)) = absurd never.1
@@ -206,21 +212,24 @@ module _ (pool : List Entry) (name : List ℕ) where
     where
       by : (super : Option (List ℕ)) → NamesSuper pool s.number name super → Either (eqb s.number 0) NoSuper (SomeSuper s.number) super []
       by None n = inl (eq-eqb _ _ n.0, inl (n.1, (refl, refl)))
-      by (Some super) n = inr (above_zero s.number super n.1, record {
-        item = super;
-        passed = passes is_class_name (class_named pool s.number) super (from_class pool s.number super n.1);
-        second = inr (n.0, (refl, refl));
-      })
+      by (Some super) n = inr (
+        above_zero s.number super n.1,
+        record {
+          item = super;
+          passed = passes is_class_name (class_named pool s.number) super (from_class pool s.number super n.1);
+          second = inr (n.0, (refl, refl));
+        },
+      )
 
   reads_super : Reads (super_at pool name) SuperSpells
   unfolding super_at
   reads_super = reads_as SuperSpells
-    (reads_then (λ start n rest. cond (eqb n 0) (cond is_object (Ok (None, rest)) (Err not_yet)) (checked is_class_name (class_named pool n) >>= λ super. cond is_object (Err not_yet) (Ok (Some super, rest)))) reads_u16 (λ start n.
-    reads_if (eqb n 0)
-    (reads_if is_object (reads_given None) (reads_never (λ bytes. not_yet)))
-    (reads_checked (checked is_class_name (class_named pool n)) (λ super rest. cond is_object (Err not_yet) (Ok (Some super, rest))) (λ super. reads_if is_object (reads_never (λ bytes. not_yet)) (reads_given (Some super))))))
-    to_super
-    from_super
+      (reads_then (λ start n rest. cond (eqb n 0) (cond is_object (Ok (None, rest)) (Err not_yet)) (checked is_class_name (class_named pool n) >>= λ super. cond is_object (Err not_yet) (Ok (Some super, rest)))) reads_u16 (λ start n.
+      reads_if (eqb n 0)
+      (reads_if is_object (reads_given None) (reads_never (λ bytes. not_yet)))
+      (reads_checked (checked is_class_name (class_named pool n)) (λ super rest. cond is_object (Err not_yet) (Ok (Some super, rest))) (λ super. reads_if is_object (reads_never (λ bytes. not_yet)) (reads_given (Some super))))))
+      to_super
+      from_super
 
 -- ---- the superinterfaces
 
@@ -379,25 +388,28 @@ to_class_file d text v =
     let from_super = joined interfaces interfaces.first.whole (joined fields refl (joined methods refl refl)) in
     let from_flags = joined flags flags.first.whole (joined name name.first.is (joined super super.first.is from_super)) in
     let whole = joined v v.first.whole (joined p p.first.whole from_flags) in
-    subst (λ d. ClassSpells d text) methods.second.is (pool, record {
-      parts = parts;
-      whole = whole ∙ regrouped (to_be_bytes w32 magic) (to_be_bytes w16 v.item.0) (to_be_bytes w16 v.item.1) (to_be_bytes w16 (length pool + 1)) (flat_map entry_bytes pool) (to_be_bytes w16 flags.item) (to_be_bytes w16 name.first.number) (to_be_bytes w16 super.first.number) (to_be_bytes w16 (length these)) (flat_map (to_be_bytes w16) these) others;
-      entries = p.first.entries;
-      pool_count = p.first.count;
-      minor = v.first.minor;
-      major = v.first.major;
-      flags = flags.first.fits;
-      this = name.first.named;
-      super = super.first.named;
-      super_fits = super.first.fits;
-      interface_count = interfaces.first.count;
-      interfaces = interfaces.first.named;
-      fields = fields.first.spells;
-      distinct_fields = fields.first.distinct;
-      methods = methods.first.spells;
-      distinct_methods = methods.first.distinct;
-      attributes = methods.second.spells;
-    })
+    subst (λ d. ClassSpells d text) methods.second.is (
+      pool,
+      record {
+        parts = parts;
+        whole = whole ∙ regrouped (to_be_bytes w32 magic) (to_be_bytes w16 v.item.0) (to_be_bytes w16 v.item.1) (to_be_bytes w16 (length pool + 1)) (flat_map entry_bytes pool) (to_be_bytes w16 flags.item) (to_be_bytes w16 name.first.number) (to_be_bytes w16 super.first.number) (to_be_bytes w16 (length these)) (flat_map (to_be_bytes w16) these) others;
+        entries = p.first.entries;
+        pool_count = p.first.count;
+        minor = v.first.minor;
+        major = v.first.major;
+        flags = flags.first.fits;
+        this = name.first.named;
+        super = super.first.named;
+        super_fits = super.first.fits;
+        interface_count = interfaces.first.count;
+        interfaces = interfaces.first.named;
+        fields = fields.first.spells;
+        distinct_fields = fields.first.distinct;
+        methods = methods.first.spells;
+        distinct_methods = methods.first.distinct;
+        attributes = methods.second.spells;
+      },
+    )
 
 from_super_on : (d : ClassDesc) (pool : List Entry) (bytes : List ℕ) (s : SpellsOver d bytes pool) → FromInterfaces (d.minor, d.major) pool d.flags d.name d.super_name d ((to_be_bytes w16 (length s.parts.interfaces) ++ flat_map (to_be_bytes w16) s.parts.interfaces) ++ (s.parts.fields ++ (s.parts.methods ++ s.parts.attributes)))
 from_super_on d pool bytes s =
@@ -497,3 +509,7 @@ class_again bytes d s =
 
 pub only_one : (bytes : List ℕ) (d e : ClassDesc) → ClassSpells d bytes → ClassSpells e bytes → d ≡ e
 only_one bytes d e p q = ok_is d e (sym (class_again bytes d p) ∙ class_again bytes e q)
+
+pub is_found : (bytes : List ℕ) (r : Result ClassDesc ReadErr) → IsBytes bytes → Answers (λ d. d) r (class_of bytes) → IfOk r (λ d. ClassSpells d bytes)
+is_found bytes (Ok d) fits exact = class_takes bytes d fits exact
+is_found bytes (Err e) fits exact = tt

@@ -4,10 +4,15 @@ use Rattle.std.specs.List.{flat_map, AllByRecursion}
 use Rattle.std.proofs.lemmas.List.Concat.{flat_map-cons}
 use Rattle.class_desc.specs.ClassFile.{EachSpells}
 use Rattle.class_reader.specs.declared.fault.ClassFault.{ClassFault}
-use Rattle.class_reader.specs.Reading.{◌>>=◌, Read, times, pass_all}
+use Rattle.class_reader.specs.Reading.{AreBytes, ◌>>=◌, Read, times, pass_all}
 
 abbrev pub IsBytes : List ℕ → Type 0
 IsBytes bytes = (i : ℕ) → get_or bytes i 0 < 256
+
+pub from_AreBytes : (bytes : List ℕ) → AreBytes bytes → IsBytes bytes
+from_AreBytes [] fits i = omega arith
+from_AreBytes (b ∷ bytes) fits zero = fits.0
+from_AreBytes (b ∷ bytes) fits (suc i) = from_AreBytes bytes fits.1 i
 
 -- these bytes begin with a text that spells the item, and the others are left
 pub record Takes {A : Type 0} (Spells : A → List ℕ → Type 0) (bytes : List ℕ) (item : A) (left : List ℕ) : Type 0 where
@@ -184,9 +189,9 @@ pub reads_times : {A : Type 0} {read : List ℕ → Read A} {Spells : A → List
 unfolding times
 reads_times {Spells} law zero = reads_as (Several Spells 0) (reads_given []) (λ items text s. subst (λ v. Several Spells 0 v text) s.0 (record { length_is = refl; each = s.1 })) (none_read Spells)
 reads_times {read} {Spells} law (suc n) = reads_as (Several Spells (suc n))
-  (reads_then (λ start item rest. times read n rest >>= λ items. Ok (item ∷ items.0, items.1)) law (λ start item. reads_made (λ items. item ∷ items) (reads_times law n)))
-  (and_one Spells n)
-  (one_and Spells n)
+    (reads_then (λ start item rest. times read n rest >>= λ items. Ok (item ∷ items.0, items.1)) law (λ start item. reads_made (λ items. item ∷ items) (reads_times law n)))
+    (and_one Spells n)
+    (one_and Spells n)
 
 -- ---- items that have one text each
 
@@ -255,6 +260,6 @@ pub reads_passing : {A : Type 0} {read : List ℕ → Read (Unit {0})} {Fits : A
 unfolding pass_all
 reads_passing {Fits} {spell} law zero = reads_as (AllSpelled Fits spell 0) (reads_given tt) (λ none text s. record { items = []; length_is = refl; fits = tt; is = s.1 }) (none_passed Fits spell)
 reads_passing {read} {Fits} {spell} law (suc n) = reads_as (AllSpelled Fits spell (suc n))
-  (reads_then (λ start item rest. pass_all read n rest) law (λ start item. reads_passing law n))
-  (passed_one Fits spell n)
-  (one_passed Fits spell n)
+    (reads_then (λ start item rest. pass_all read n rest) law (λ start item. reads_passing law n))
+    (passed_one Fits spell n)
+    (one_passed Fits spell n)

@@ -1,5 +1,5 @@
 -- Fields and methods, of which no two have one name and descriptor.
-use Rattle.std.proofs.Common.{◌≡◌, ℕ, zero, suc, ◌^◌, ◌<◌, ◌||◌, ◌&&◌, Bool, true, false, true≢false, cond, List, [], ◌∷◌, ◌++◌, length, map, Ok, Err, Result, refl, sym, ap, subst, ◌∙◌, append_assoc, arith}
+use Rattle.std.proofs.Common.{◌≡◌, ℕ, zero, suc, ◌^◌, ◌<◌, ◌||◌, ◌&&◌, Bool, true, false, true≢false, cond, List, [], ◌∷◌, ◌++◌, length, map, Ok, Err, refl, sym, ap, subst, ◌∙◌, append_assoc, arith}
 use Rattle.std.specs.List.{AllByRecursion, IsDistinct, list_any}
 use Rattle.std.specs.Int.{w16, to_be_bytes}
 use Rattle.std.specs.Cmp.Lexicographic.{same_text}
@@ -9,12 +9,11 @@ use Rattle.class_desc.specs.declared.class.MethodDesc.{MethodDesc}
 use Rattle.class_desc.specs.Names.{is_text, is_field_name, is_method_name}
 use Rattle.class_desc.specs.Pool.{Entry}
 use Rattle.class_desc.specs.ClassFile.{is_field_descriptor, is_method_descriptor, NamesForm, AttributesSpell, MemberSpells, FieldSpells, MethodSpells, EachSpells, CountedSpells, Key, is_key, field_key, method_key}
-use Rattle.class_reader.specs.declared.fault.ClassFault.{ClassFault}
 use Rattle.class_reader.specs.declared.member.Member.{Member}
-use Rattle.class_reader.specs.Reading.{◌>>=◌, Read, not_yet, number_at, text_at, attributes_at, unseen, signed_at, member_at, members_at, as_field, as_method, field_at, method_at, fields_at, methods_at}
+use Rattle.class_reader.specs.Reading.{◌>>=◌, Read, not_yet, text_at, attributes_at, unseen, signed_at, member_at, members_at, as_field, as_method, field_at, method_at, fields_at, methods_at}
 use Rattle.class_reader.proofs.Laws.{Reads, reads_as, Given, reads_given, Then, reads_then, Checked, reads_checked, Made, reads_made, same_after}
 use Rattle.class_reader.proofs.Numbers.{NumberSpells, reads_u16}
-use Rattle.class_reader.proofs.PoolLaws.{Numbered, reads_text, alone}
+use Rattle.class_reader.proofs.PoolLaws.{Numbered, reads_text}
 use Rattle.class_reader.proofs.Attributes.{reads_attributes}
 
 -- ---- a member
@@ -65,11 +64,11 @@ module _ (pool : List Entry) (is_name is_descriptor : List ℕ → Bool) where
   reads_signed : Reads (signed_at pool is_name is_descriptor) (SignedSpells pool is_name is_descriptor)
   unfolding signed_at
   reads_signed = reads_as (SignedSpells pool is_name is_descriptor)
-    (reads_then (λ start flags rest. text_at pool is_name rest >>= λ name. text_at pool is_descriptor name.1 >>= λ descriptor. Ok ((flags, name.0, descriptor.0), descriptor.1)) reads_u16 (λ start flags.
-    reads_then (λ start name rest. text_at pool is_descriptor rest >>= λ descriptor. Ok ((flags, name, descriptor.0), descriptor.1)) (reads_text pool is_name) (λ start name.
-    reads_made (λ descriptor. (flags, name, descriptor)) (reads_text pool is_descriptor))))
-    to_signed
-    from_signed
+      (reads_then (λ start flags rest. text_at pool is_name rest >>= λ name. text_at pool is_descriptor name.1 >>= λ descriptor. Ok ((flags, name.0, descriptor.0), descriptor.1)) reads_u16 (λ start flags.
+      reads_then (λ start name rest. text_at pool is_descriptor rest >>= λ descriptor. Ok ((flags, name, descriptor.0), descriptor.1)) (reads_text pool is_name) (λ start name.
+      reads_made (λ descriptor. (flags, name, descriptor)) (reads_text pool is_descriptor))))
+      to_signed
+      from_signed
 
 -- no member that was seen has this key
 abbrev pub IsNew : List Key → Key → Type 0
@@ -137,11 +136,11 @@ module _ (pool : List Entry) (is_name is_descriptor : List ℕ → Bool) where
   pub reads_member : (seen : List Key) → Reads (member_at pool is_name is_descriptor seen) (NewMember SpellsMember seen)
   unfolding member_at
   reads_member seen = reads_as (NewMember SpellsMember seen)
-    (reads_then (λ start front rest. unseen (front.1, front.2) seen >>= λ new. attributes_at pool rest >>= λ attrs. Ok (record { flags = front.0; name = front.1; descriptor = front.2; attrs = attrs.0 }, attrs.1)) (reads_signed pool is_name is_descriptor) (λ start front.
-    reads_checked (unseen (front.1, front.2) seen) (λ new rest. attributes_at pool rest >>= λ attrs. Ok (record { flags = front.0; name = front.1; descriptor = front.2; attrs = attrs.0 }, attrs.1)) (λ new.
-    reads_made (λ attrs. record { flags = front.0; name = front.1; descriptor = front.2; attrs = attrs }) (reads_attributes pool))))
-    (to_member seen)
-    (from_member seen)
+      (reads_then (λ start front rest. unseen (front.1, front.2) seen >>= λ new. attributes_at pool rest >>= λ attrs. Ok (record { flags = front.0; name = front.1; descriptor = front.2; attrs = attrs.0 }, attrs.1)) (reads_signed pool is_name is_descriptor) (λ start front.
+      reads_checked (unseen (front.1, front.2) seen) (λ new rest. attributes_at pool rest >>= λ attrs. Ok (record { flags = front.0; name = front.1; descriptor = front.2; attrs = attrs.0 }, attrs.1)) (λ new.
+      reads_made (λ attrs. record { flags = front.0; name = front.1; descriptor = front.2; attrs = attrs }) (reads_attributes pool))))
+      (to_member seen)
+      (from_member seen)
 
 -- ---- keys
 
@@ -272,10 +271,10 @@ module _ {A : Type 0} (make : Member → A) (back : A → Member) (Spells : Memb
     unfolding members_at
     reads_members read law seen zero = reads_as (SeveralMembers seen 0) (reads_given []) (λ items text s. subst (λ v. SeveralMembers seen 0 v text) s.0 (record { length_is = refl; each = s.1; new = tt })) (no_member seen)
     reads_members read law seen (suc n) = reads_as (SeveralMembers seen (suc n))
-      (reads_then (λ start m rest. members_at make read (seen ++ member_key m ∷ []) n rest >>= λ ms. Ok (make m ∷ ms.0, ms.1)) (law seen) (λ start m.
-      reads_made (λ items. make m ∷ items) (reads_members read law (seen ++ member_key m ∷ []) n)))
-      (to_members seen n)
-      (from_members seen n)
+        (reads_then (λ start m rest. members_at make read (seen ++ member_key m ∷ []) n rest >>= λ ms. Ok (make m ∷ ms.0, ms.1)) (law seen) (λ start m.
+        reads_made (λ items. make m ∷ items) (reads_members read law (seen ++ member_key m ∷ []) n)))
+        (to_members seen n)
+        (from_members seen n)
 
 -- members behind their count, of which no two have one key
 pub record DistinctSpell {A : Type 0} (Spells : A → List ℕ → Type 0) (key : A → Key) (items : List A) (text : List ℕ) : Type 0 where

@@ -1,5 +1,5 @@
 -- Numbers and pieces of bytes.
-use Rattle.std.proofs.Common.{◌≡◌, ℕ, suc, ◌+◌, ◌^◌, ◌<◌, ◌≤◌, Bool, true, false, cond, ltb, List, [], ◌∷◌, ◌++◌, length, get_or, take, drop, Ok, Err, refl, sym, ap, subst, ◌∙◌, arith, inl, inr}
+use Rattle.std.proofs.Common.{◌≡◌, ℕ, suc, ◌+◌, ◌^◌, ◌<◌, ◌≤◌, Bool, true, false, cond, ltb, List, [], ◌∷◌, ◌++◌, length, take, drop, Ok, Err, refl, sym, ap, subst, ◌∙◌, arith, inl, inr}
 use Rattle.std.specs.Int.{Width, w8, w16, w32, byte_len, from_be_bytes, to_be_bytes}
 use Rattle.std.proofs.lemmas.Bool.{cases_lt, ltb-false, le-ltb}
 use Rattle.std.proofs.lemmas.List.{take_at, drop_at, take-append-drop, length-append, length-take, get_or-drop, get_or-take, get_or_past}
@@ -7,7 +7,7 @@ use Rattle.std.proofs.lemmas.Nat.{be_bytes_2, be_bytes_4, from_be_bytes-to_be_by
 use Rattle.class_reader.specs.declared.fault.ClassFault.{ClassFault}
 use Rattle.class_desc.specs.ClassFile.{CountedSpells}
 use Rattle.class_reader.specs.Reading.{◌>>=◌, Read, not_yet, number_at, piece_at, times}
-use Rattle.class_reader.proofs.Laws.{IsBytes, Takes, Reads, ok_is, reads_as, Then, reads_then, Several, reads_times}
+use Rattle.class_reader.proofs.Laws.{IsBytes, Takes, Reads, reads_as, Then, reads_then, Several, reads_times}
 
 IsBytes-drop : (n : ℕ) (bytes : List ℕ) → IsBytes bytes → IsBytes (drop n bytes)
 IsBytes-drop n bytes h i = rw get_or-drop (h (n + i))

@@ -1,12 +1,12 @@
 -- The pool, and what its numbers name.
-use Rattle.std.proofs.Common.{◌≡◌, ℕ, suc, ◌+◌, ◌-◌, ◌^◌, ◌<◌, ◌&&◌, Bool, true, false, true≢false, cond, eqb, List, [], ◌∷◌, ◌++◌, length, Option, Some, None, Result, Ok, Err, refl, sym, ap, subst, ◌∙◌, append-nil, arith, inl, inr}
+use Rattle.std.proofs.Common.{◌≡◌, ℕ, ◌+◌, ◌-◌, ◌^◌, ◌<◌, ◌&&◌, Bool, true, false, cond, eqb, List, [], ◌∷◌, ◌++◌, length, Option, Some, None, Ok, Err, refl, sym, ap, subst, ◌∙◌, append-nil, arith, inl, inr}
 use Rattle.std.specs.List.{flat_map, AllByRecursion}
 use Rattle.std.specs.Int.{w16, to_be_bytes}
 use Rattle.std.proofs.lemmas.Bool.{eqb-true, eqb-false}
 use Rattle.class_desc.specs.Names.{is_class_name}
 use Rattle.class_desc.specs.Pool.{Entry, Utf8, ClassRef, Other, other_length, entry_bytes, EntryFits, entry_of}
-use Rattle.class_desc.specs.ClassFile.{is_plain, NamesForm, NamesPlainClass, NamesClasses, EachSpells, CountedSpells}
-use Rattle.class_reader.specs.Reading.{◌>>=◌, Read, not_yet, number_at, piece_at, times, text_entry_at, class_entry_at, other_of, other_entry_at, entry_at, pool_at, text_in, text_named, class_in, class_named, checked, text_at, class_at}
+use Rattle.class_desc.specs.ClassFile.{is_plain, NamesForm, NamesPlainClass}
+use Rattle.class_reader.specs.Reading.{◌>>=◌, not_yet, number_at, piece_at, times, text_entry_at, class_entry_at, other_of, other_entry_at, entry_at, pool_at, text_in, text_named, class_in, class_named, checked, text_at, class_at}
 use Rattle.class_reader.proofs.Laws.{Reads, reads_as, Given, reads_given, Then, reads_then, Checked, reads_checked, Either, reads_if, Never, reads_never, Made, reads_made, Several, reads_times, Spelled, each_spelled, spelled_each}
 use Rattle.class_reader.proofs.Numbers.{NumberSpells, reads_u16, ByteSpells, reads_byte, PieceSpells, reads_piece}
 
@@ -43,6 +43,7 @@ reads_text_entry = reads_as TextEntry (reads_then (λ start n rest. piece_at n r
           fits = omega (arith, s.first.0, value.0);
           whole = s.whole ∙ ap (λ (t : List ℕ). s.front ++ t) value.1 ∙ ap (λ (t : List ℕ). t ++ s.second.item) (s.first.1 ∙ ap (to_be_bytes w16) (sym value.0));
         }
+
     from : (entry : Entry) (text : List ℕ) → TextEntry entry text → Then (NumberSpells w16 (2 ^ 16)) (λ n. Made (λ text. Utf8 text) (PieceSpells n)) entry text
     from entry text s = record {
       item = length s.value;
@@ -56,14 +57,14 @@ reads_text_entry = reads_as TextEntry (reads_then (λ start n rest. piece_at n r
 reads_class_entry : Reads class_entry_at ClassEntry
 unfolding class_entry_at
 reads_class_entry = reads_as ClassEntry (reads_made (λ n. ClassRef n) reads_u16)
-  (λ entry text s. record { number = s.item; is = s.is; fits = s.spells.0; whole = s.spells.1 })
-  (λ entry text s. record { item = s.number; is = s.is; spells = (s.fits, s.whole) })
+    (λ entry text s. record { number = s.item; is = s.is; fits = s.spells.0; whole = s.spells.1 })
+    (λ entry text s. record { item = s.number; is = s.is; spells = (s.fits, s.whole) })
 
 reads_other_of : (tag : ℕ) (count : Option ℕ) → Reads (other_of tag count) (OtherEntry tag count)
 reads_other_of tag None = reads_as (OtherEntry tag None) (reads_never (λ bytes. not_yet)) (λ entry text s. absurd s) (λ entry text s. absurd (let h = s.fits in cc))
 reads_other_of tag (Some n) = reads_as (OtherEntry tag (Some n)) (reads_made (λ bytes. Other tag bytes) (reads_piece n))
-  (λ entry text s. record { value = s.item; is = s.is; fits = ap (λ (k : ℕ). Some k) (sym s.spells.0); whole = s.spells.1 })
-  (λ entry text s. record { item = s.value; is = s.is; spells = (some_is _ _ (sym s.fits), s.whole) })
+    (λ entry text s. record { value = s.item; is = s.is; fits = ap (λ (k : ℕ). Some k) (sym s.spells.0); whole = s.spells.1 })
+    (λ entry text s. record { item = s.value; is = s.is; spells = (some_is _ _ (sym s.fits), s.whole) })
   where
     some_is : (m n : ℕ) → Some m ≡ Some n → m ≡ n
     some_is m n e = cc
@@ -106,10 +107,10 @@ from_entry (Other tag value) text s = record {
 pub reads_entry : Reads entry_at (Spelled EntryFits entry_bytes)
 unfolding entry_at
 reads_entry = reads_as (Spelled EntryFits entry_bytes)
-  (reads_then (λ start tag rest. cond (eqb tag 1) (text_entry_at rest) (cond (eqb tag 7) (class_entry_at rest) (other_entry_at tag rest))) reads_byte
-  (λ start tag. reads_if (eqb tag 1) reads_text_entry (reads_if (eqb tag 7) reads_class_entry (reads_other_entry tag))))
-  to_entry
-  from_entry
+    (reads_then (λ start tag rest. cond (eqb tag 1) (text_entry_at rest) (cond (eqb tag 7) (class_entry_at rest) (other_entry_at tag rest))) reads_byte
+    (λ start tag. reads_if (eqb tag 1) reads_text_entry (reads_if (eqb tag 7) reads_class_entry (reads_other_entry tag))))
+    to_entry
+    from_entry
 
 -- ---- the pool
 
@@ -155,9 +156,9 @@ from_pool pool text s = record {
 pub reads_pool : Reads pool_at PoolSpells
 unfolding pool_at
 reads_pool = reads_as PoolSpells
-  (reads_then (λ start count rest. cond (eqb count 0) (Err not_yet) (times entry_at (count - 1) rest)) reads_u16 (λ start count. reads_if (eqb count 0) (reads_never (λ bytes. not_yet)) (reads_times reads_entry (count - 1))))
-  to_pool
-  from_pool
+    (reads_then (λ start count rest. cond (eqb count 0) (Err not_yet) (times entry_at (count - 1) rest)) reads_u16 (λ start count. reads_if (eqb count 0) (reads_never (λ bytes. not_yet)) (reads_times reads_entry (count - 1))))
+    to_pool
+    from_pool
 
 -- ---- what a number names
 
@@ -204,9 +205,9 @@ alone text front rest whole e f r = e ∙ ap (λ (t : List ℕ). front ++ t) r �
 
 pub reads_checked_number : (is_form : List ℕ → Bool) (named : ℕ → Option (List ℕ)) → Reads (λ bytes. number_at w16 bytes >>= λ n. checked is_form (named n.0) >>= λ text. Ok (text, n.1)) (Numbered (λ n. IsChecked is_form (named n)))
 reads_checked_number is_form named = reads_as (Numbered (λ n. IsChecked is_form (named n)))
-  (reads_then (λ start n rest. checked is_form (named n) >>= λ text. Ok (text, rest)) reads_u16 (λ start n. reads_checked (checked is_form (named n)) (λ text rest. Ok (text, rest)) (λ text. reads_given text)))
-  to
-  from
+    (reads_then (λ start n rest. checked is_form (named n) >>= λ text. Ok (text, rest)) reads_u16 (λ start n. reads_checked (checked is_form (named n)) (λ text rest. Ok (text, rest)) (λ text. reads_given text)))
+    to
+    from
   where
     to : (item text : List ℕ) → Then (NumberSpells w16 (2 ^ 16)) (λ n. Checked (checked is_form (named n)) (λ text. Given text)) item text → Numbered (λ n. IsChecked is_form (named n)) item text
     to item text s = record {
@@ -215,6 +216,7 @@ reads_checked_number is_form named = reads_as (Numbered (λ n. IsChecked is_form
       named = subst (λ t. IsChecked is_form (named s.item) t) s.second.second.0 (passed is_form (named s.item) s.second.item s.second.passed);
       is = alone text s.front s.rest (to_be_bytes w16 s.item) s.whole s.first.1 s.second.second.1;
     }
+
     from : (item text : List ℕ) → Numbered (λ n. IsChecked is_form (named n)) item text → Then (NumberSpells w16 (2 ^ 16)) (λ n. Checked (checked is_form (named n)) (λ text. Given text)) item text
     from item text s = record {
       item = s.number;
@@ -228,8 +230,8 @@ reads_checked_number is_form named = reads_as (Numbered (λ n. IsChecked is_form
 pub reads_text : (pool : List Entry) (is_form : List ℕ → Bool) → Reads (text_at pool is_form) (Numbered (NamesForm pool is_form))
 unfolding text_at
 reads_text pool is_form = reads_as (Numbered (NamesForm pool is_form)) (reads_checked_number is_form (text_named pool))
-  (λ item text s. record { number = s.number; fits = s.fits; named = record { fits = s.fits; named = text_is (entry_of pool s.number) item s.named.is; plain = s.named.plain; form = s.named.form }; is = s.is })
-  (λ item text s. record { number = s.number; fits = s.fits; named = record { is = ap text_in s.named.named; plain = s.named.plain; form = s.named.form }; is = s.is })
+    (λ item text s. record { number = s.number; fits = s.fits; named = record { fits = s.fits; named = text_is (entry_of pool s.number) item s.named.is; plain = s.named.plain; form = s.named.form }; is = s.is })
+    (λ item text s. record { number = s.number; fits = s.fits; named = record { is = ap text_in s.named.named; plain = s.named.plain; form = s.named.form }; is = s.is })
 
 -- a class of the pool, with what its name has to be
 pub to_class : (pool : List Entry) (n : ℕ) (name : List ℕ) → n < 2 ^ 16 → IsChecked is_class_name (class_named pool n) name → NamesPlainClass pool n name
@@ -241,5 +243,5 @@ from_class pool n name c = record { is = ap (class_in pool) c.named.1 ∙ ap tex
 pub reads_class : (pool : List Entry) → Reads (class_at pool) (Numbered (NamesPlainClass pool))
 unfolding class_at
 reads_class pool = reads_as (Numbered (NamesPlainClass pool)) (reads_checked_number is_class_name (class_named pool))
-  (λ item text s. record { number = s.number; fits = s.fits; named = to_class pool s.number item s.fits s.named; is = s.is })
-  (λ item text s. record { number = s.number; fits = s.fits; named = from_class pool s.number item s.named; is = s.is })
+    (λ item text s. record { number = s.number; fits = s.fits; named = to_class pool s.number item s.fits s.named; is = s.is })
+    (λ item text s. record { number = s.number; fits = s.fits; named = from_class pool s.number item s.named; is = s.is })

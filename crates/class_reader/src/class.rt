@@ -1,7 +1,7 @@
-ghost use Rattle.std.specs.Prelude.{◌≡◌, ◌≤◌, ◌^◌, length};
+ghost use Rattle.std.specs.Prelude.{◌≡◌, ℕ, ◌≤◌, ◌^◌, List, length, IfOk, Ok};
 ghost use Rattle.class_desc.specs.Names.{is_text};
-ghost use Rattle.class_desc.specs.ClassFile.{object_name};
-ghost use Rattle.class_reader.specs.Reading.{Gives, Answers, times, version_at, class_flags_at, class_at, super_at, interfaces_at, file_at, class_of};
+ghost use Rattle.class_desc.specs.ClassFile.{object_name, ClassSpells};
+ghost use Rattle.class_reader.specs.Reading.{Gives, Answers, AreBytes, times, version_at, class_flags_at, class_at, super_at, interfaces_at, file_at, class_of};
 
 use crate::fault::{ClassFault, ReadErr};
 use crate::forms::Form;
@@ -142,9 +142,27 @@ fn class_from(alloc: Global, bytes: &[u8]) -> Result<ClassDesc, ReadErr>
 }
 
 /// Reads a class file (JVMS 4.1) of Java 1.1 to Java SE 17.
+///
+/// A fault comes just where the bytes spell no description, and is the first check that fails.
 pub fn read_class(alloc: Global, bytes: &[u8]) -> Result<ClassDesc, ReadErr>
     requires { length bytes.now ≤ 2 ^ 24 }
-    ensures { Answers (λ d. d) result (class_of bytes.now) }
+    // What is read is spelled.
+    ensures found { IfOk result (λ d. ClassSpells d bytes.now) }
+    // What is spelled is read, unless memory runs out.
+    ensures only { (d : ClassDesc) → ClassSpells d bytes.now → Answers (λ d. d) result (Ok d) }
+    // Which fault it is.
+    ensures exact { Answers (λ d. d) result (class_of bytes.now) }
 {
     class_from(alloc, bytes)
 }
+
+/// At most one description has given bytes as a spelling.
+pub fn one_description()
+    ensures { (bytes : List ℕ) (d e : ClassDesc) → ClassSpells d bytes → ClassSpells e bytes → d ≡ e }
+{}
+
+/// Reading from front to back gives just the descriptions that the bytes spell.
+pub fn reads_what_is_spelled()
+    ensures spelled { (bytes : List ℕ) (d : ClassDesc) → AreBytes bytes → class_of bytes ≡ Ok d → ClassSpells d bytes }
+    ensures read { (bytes : List ℕ) (d : ClassDesc) → ClassSpells d bytes → class_of bytes ≡ Ok d }
+{}

@@ -10,5 +10,5 @@ mod member;
 mod pool;
 mod reader;
 
-pub use class::read_class;
+pub use class::{one_description, read_class, reads_what_is_spelled};
 pub use fault::{ClassFault, ClassKind, ReadErr};
