@@ -1,3 +1,9 @@
+pub mod Attributes
+pub mod ClassLaws
 pub mod Keys
+pub mod Laws
+pub mod MemberLaws
 pub mod Members
+pub mod Numbers
+pub mod PoolLaws
 pub mod Times

@@ -1,7 +1,7 @@
 -- Reading a class file from front to back (JVMS 4.1), item by item, up to the first check that fails.
-use Rattle.std.specs.Prelude.{◌≡◌, ℕ, zero, suc, ◌-◌, ◌^◌, ◌||◌, ◌&&◌, Bool, List, [], ◌∷◌, ◌++◌, length, take, drop, codes, Option, Some, None, Result, Ok, Err, nat_lt, ◌==◌, if◌then◌else◌}
+use Rattle.std.specs.Prelude.{◌≡◌, ℕ, zero, suc, ◌-◌, ◌<◌, ◌^◌, ◌||◌, ◌&&◌, Bool, List, [], ◌∷◌, ◌++◌, length, take, drop, codes, Option, Some, None, Result, Ok, Err, nat_lt, ◌==◌, if◌then◌else◌}
 use Rattle.std.specs.Int.{Width, w8, w16, w32, byte_len, from_be_bytes}
-use Rattle.std.specs.List.{list_any}
+use Rattle.std.specs.List.{list_any, AllByRecursion}
 use Rattle.class_desc.specs.declared.attribute.Attr.{Attr}
 use Rattle.class_desc.specs.declared.class.ClassDesc.{ClassDesc}
 use Rattle.class_desc.specs.declared.class.FieldDesc.{FieldDesc}
@@ -16,6 +16,10 @@ use Rattle.class_reader.specs.declared.fault.ReadErr.TheVariants as errors
 use Rattle.class_reader.specs.declared.member.Member.{Member}
 use Rattle.class_reader.specs.declared.forms.Form.{Form}
 use Rattle.class_reader.specs.declared.forms.Form.TheVariants as form
+
+-- what a file can hold
+abbrev pub AreBytes : List ℕ → Type 0
+AreBytes = AllByRecursion (λ b. b < 2 ^ 8)
 
 -- what reading an item gives: its value and the bytes behind it, or the first check that fails
 abbrev pub Read : Type 0 → Type 0
@@ -232,9 +236,9 @@ methods_at pool bytes = do
   count ← number_at w16 bytes
   members_at as_method (method_at pool) [] count.0 count.1
 
--- the class of a whole file
-unfoldable pub class_of : List ℕ → Result ClassDesc ClassFault
-class_of bytes = do
+-- the class at the front
+unfoldable pub file_at : List ℕ → Read ClassDesc
+file_at bytes = do
   version ← version_at bytes
   pool ← pool_at version.1
   flags ← class_flags_at pool.1
@@ -244,16 +248,23 @@ class_of bytes = do
   fields ← fields_at pool.0 interfaces.1
   methods ← methods_at pool.0 fields.1
   attrs ← attributes_at pool.0 methods.1
-  if length attrs.1 == 0
-      then Ok (record {
-        minor = version.0.0;
-        major = version.0.1;
-        flags = flags.0;
-        name = name.0;
-        super_name = super.0;
-        interfaces = interfaces.0;
-        fields = fields.0;
-        methods = methods.0;
-        attrs = attrs.0;
-      })
-      else Err not_yet
+  Ok (
+    record {
+      minor = version.0.0;
+      major = version.0.1;
+      flags = flags.0;
+      name = name.0;
+      super_name = super.0;
+      interfaces = interfaces.0;
+      fields = fields.0;
+      methods = methods.0;
+      attrs = attrs.0;
+    },
+    attrs.1,
+  )
+
+-- the class of a whole file: no byte follows it
+unfoldable pub class_of : List ℕ → Result ClassDesc ClassFault
+class_of bytes = do
+  d ← file_at bytes
+  if length d.1 == 0 then Ok d.0 else Err not_yet

@@ -1,7 +1,7 @@
-ghost use Rattle.std.specs.Prelude.{◌≡◌, ◌≤◌, ◌^◌, length};
+ghost use Rattle.std.specs.Prelude.{◌≡◌, ℕ, ◌≤◌, ◌^◌, List, length, IfOk, Ok};
 ghost use Rattle.class_desc.specs.Names.{is_text};
-ghost use Rattle.class_desc.specs.ClassFile.{object_name};
-ghost use Rattle.class_reader.specs.Reading.{Gives, Answers, times, version_at, class_flags_at, class_at, super_at, interfaces_at, class_of};
+ghost use Rattle.class_desc.specs.ClassFile.{object_name, ClassSpells};
+ghost use Rattle.class_reader.specs.Reading.{Gives, Answers, AreBytes, times, version_at, class_flags_at, class_at, super_at, interfaces_at, file_at, class_of};
 
 use crate::fault::{ClassFault, ReadErr};
 use crate::forms::Form;
@@ -98,6 +98,33 @@ impl<'a> Reader<'a> {
         let count = self.u16()?;
         Ok(List::of(self.class_names(alloc, pool, count)?))
     }
+
+    /// The class, to the end of its attributes.
+    #[tactic(auto, unfolding(crate::specs::Reading::file_at))]
+    fn class(&mut self, alloc: Global) -> Result<ClassDesc, ReadErr>
+        ensures { Gives (λ d. d) result self.new (file_at self.old) }
+    {
+        let (minor, major) = self.version()?;
+        let pool = self.pool(alloc)?;
+        let flags = self.class_flags()?;
+        let name = self.class_name(&pool)?;
+        let super_name = self.super_name(alloc, &pool, name)?;
+        let interfaces = self.interfaces(alloc, &pool)?;
+        let fields = self.fields(alloc, &pool)?;
+        let methods = self.methods(alloc, &pool)?;
+        let attrs = self.attributes(alloc, &pool)?;
+        Ok(ClassDesc {
+            minor,
+            major,
+            flags,
+            name: Text::of(alloc, name)?,
+            super_name,
+            interfaces,
+            fields,
+            methods,
+            attrs,
+        })
+    }
 }
 
 /// The class that the bytes spell, or the first check that fails.
@@ -106,35 +133,36 @@ fn class_from(alloc: Global, bytes: &[u8]) -> Result<ClassDesc, ReadErr>
     ensures { Answers (λ d. d) result (class_of bytes.now) }
 {
     let mut reader = Reader::of(bytes);
-    let (minor, major) = reader.version()?;
-    let pool = reader.pool(alloc)?;
-    let flags = reader.class_flags()?;
-    let name = reader.class_name(&pool)?;
-    let super_name = reader.super_name(alloc, &pool, name)?;
-    let interfaces = reader.interfaces(alloc, &pool)?;
-    let fields = reader.fields(alloc, &pool)?;
-    let methods = reader.methods(alloc, &pool)?;
-    let attrs = reader.attributes(alloc, &pool)?;
-    if !reader.is_at_end() {
-        return Err(ReadErr::Fault(ClassFault::NOT_YET));
+    let class = reader.class(alloc)?;
+    if reader.is_at_end() {
+        Ok(class)
+    } else {
+        Err(ReadErr::Fault(ClassFault::NOT_YET))
     }
-    Ok(ClassDesc {
-        minor,
-        major,
-        flags,
-        name: Text::of(alloc, name)?,
-        super_name,
-        interfaces,
-        fields,
-        methods,
-        attrs,
-    })
 }
 
 /// Reads a class file (JVMS 4.1) of Java 1.1 to Java SE 17.
+///
+/// A fault comes just where the bytes spell no description, and is the first check that fails.
 pub fn read_class(alloc: Global, bytes: &[u8]) -> Result<ClassDesc, ReadErr>
     requires { length bytes.now ≤ 2 ^ 24 }
-    ensures { Answers (λ d. d) result (class_of bytes.now) }
+    // What is read is spelled.
+    ensures found { IfOk result (λ d. ClassSpells d bytes.now) }
+    // What is spelled is read, unless memory runs out.
+    ensures only { (d : ClassDesc) → ClassSpells d bytes.now → Answers (λ d. d) result (Ok d) }
+    // Which fault it is.
+    ensures exact { Answers (λ d. d) result (class_of bytes.now) }
 {
     class_from(alloc, bytes)
 }
+
+/// At most one description has given bytes as a spelling.
+pub fn one_description()
+    ensures { (bytes : List ℕ) (d e : ClassDesc) → ClassSpells d bytes → ClassSpells e bytes → d ≡ e }
+{}
+
+/// Reading from front to back gives just the descriptions that the bytes spell.
+pub fn reads_what_is_spelled()
+    ensures spelled { (bytes : List ℕ) (d : ClassDesc) → AreBytes bytes → class_of bytes ≡ Ok d → ClassSpells d bytes }
+    ensures read { (bytes : List ℕ) (d : ClassDesc) → ClassSpells d bytes → class_of bytes ≡ Ok d }
+{}

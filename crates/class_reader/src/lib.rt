@@ -9,6 +9,8 @@ mod forms;
 mod member;
 mod pool;
 mod reader;
+#[cfg(test)]
+mod tests;
 
-pub use class::read_class;
+pub use class::{one_description, read_class, reads_what_is_spelled};
 pub use fault::{ClassFault, ClassKind, ReadErr};
