@@ -1,0 +1,5 @@
+pub mod Firsts
+pub mod Inserting
+pub mod Keys
+pub mod Refusals
+pub mod Writes
