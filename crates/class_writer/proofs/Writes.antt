@@ -7,7 +7,7 @@ use Rattle.std.proofs.Math.Seq.{take-suc}
 use Rattle.std.proofs.lemmas.Cmp.{nat_list_eq_equiv}
 use Rattle.std.proofs.lemmas.Grind.{flat_map-append, fold-append}
 use Rattle.indexmap.specs.IndexSet.{insert_key, insert_all}
-use Rattle.class_desc.specs.Layout.{Need, TextNeed, ClassNeed, is_need}
+use Rattle.class_desc.specs.Layout.{Need, TextNeed, ClassNeed, is_need, member_bytes, counted}
 use Rattle.class_writer.specs.declared.key.Key.{Key}
 use Rattle.class_writer.specs.contracts.key.KeyPartialEq.TheImpl.{ghosts}
 use Rattle.class_writer.specs.Writing.{Draft, Writes, need_seen, number_bytes}
@@ -91,3 +91,24 @@ pub one_more : {X : Type 0} (needed : X → List Need) (bytes : List Need → X 
     → Writes (flat_map needed (take i xs)) (λ pool. flat_map (bytes pool) (take i xs)) a b → Writes (needed x) (λ pool. bytes pool x) b c
     → Writes (flat_map needed (take (i + 1) xs)) (λ pool. flat_map (bytes pool) (take (i + 1) xs)) a c
 one_more needed bytes i xs x below is before now = otherwise (flat_map_last needed i xs x below is) (λ pool. flat_map_last (bytes pool) i xs x below is) (then before now)
+
+-- a class right behind its name, whose texts are these
+pub class_behind : {a b c : Draft} (name text class_text : List ℕ) → text ≡ name → class_text ≡ name → Writes (TextNeed text ∷ []) (λ _. []) a b → Writes (ClassNeed class_text ∷ []) (number_bytes (ClassNeed class_text)) b c
+    → Writes (TextNeed name ∷ ClassNeed name ∷ []) (number_bytes (ClassNeed name)) a c
+class_behind name text class_text same also_same one two = then (rw same at one) (rw also_same at two)
+
+-- a field or a method
+pub member_of : {a b c d e : Draft} (flags number : ℕ) (name descriptor : List ℕ) → number ≡ flags → Writes [] (λ _. to_be_bytes w16 number) a b
+    → Writes (TextNeed name ∷ []) (number_bytes (TextNeed name)) b c → Writes (TextNeed descriptor ∷ []) (number_bytes (TextNeed descriptor)) c d → Writes [] (λ _. to_be_bytes w16 0) d e
+    → Writes (TextNeed name ∷ TextNeed descriptor ∷ []) (λ pool. member_bytes pool flags name descriptor) a e
+member_of flags number name descriptor same one two three four = then (rw same at one) (then two (then three four))
+
+-- items behind their count
+pub counted_of : {X : Type 0} (needed : X → List Need) (bytes : List Need → X → List ℕ) (items these : List X) {a b c : Draft} → these ≡ items
+    → Writes [] (λ _. to_be_bytes w16 (length these)) a b → Writes (flat_map needed these) (λ pool. flat_map (bytes pool) these) b c
+    → Writes (flat_map needed items) (λ pool. counted (bytes pool) items) a c
+counted_of needed bytes items these same one two = then (rw same at one) (rw same at two)
+
+-- nothing more is needed
+pub then_bytes : {a b c : Draft} {m : List Need} {f : List Need → List ℕ} {g : List Need → List ℕ} → Writes m f a b → Writes [] g b c → Writes m (λ pool. f pool ++ g pool) a c
+then_bytes {m = m} one two = otherwise (append-nil m) (λ pool. refl) (then one two)

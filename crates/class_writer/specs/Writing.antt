@@ -1,12 +1,13 @@
 -- How a class file is put together: what stands behind the pool is written item by item, while the pool is gathered.
-use Rattle.std.specs.Prelude.{◌≡◌, ℕ, List, [], ◌∷◌, ◌++◌, Option, Some, None, length, map}
+use Rattle.std.specs.Prelude.{◌≡◌, ℕ, ◌+◌, List, [], ◌∷◌, ◌++◌, Option, Some, None, length, map}
 use Rattle.std.specs.List.{flat_map}
 use Rattle.std.specs.Int.{w16, to_be_bytes}
 use Rattle.indexmap.specs.IndexSet.{insert_all}
 use Rattle.class_desc.specs.declared.class.ClassDesc.{ClassDesc}
 use Rattle.class_desc.specs.declared.class.FieldDesc.{FieldDesc}
 use Rattle.class_desc.specs.declared.class.MethodDesc.{MethodDesc}
-use Rattle.class_desc.specs.Layout.{Need, TextNeed, ClassNeed, is_need, number_in, super_number, counted, field_bytes, method_bytes, attributes_bytes}
+use Rattle.class_desc.specs.Pool.{entry_bytes}
+use Rattle.class_desc.specs.Layout.{Need, TextNeed, ClassNeed, is_need, entry_in, number_in, super_number, counted, field_bytes, method_bytes, attributes_bytes}
 use Rattle.class_writer.specs.declared.key.Key.{Key}
 use Rattle.class_writer.specs.declared.key.Key.TheVariants as key
 
@@ -41,3 +42,7 @@ body_bytes d pool =
     to_be_bytes w16 d.flags ++ (number_bytes (ClassNeed d.name) pool ++ (super_bytes d.super_name pool
     ++ (counted (class_number_bytes pool) d.interfaces
     ++ (counted (field_bytes pool) d.fields ++ (counted (method_bytes pool) d.methods ++ attributes_bytes)))))
+
+-- the pool behind its count (JVMS 4.1)
+abbrev pub pool_bytes : List Need → List ℕ
+pool_bytes pool = to_be_bytes w16 (length pool + 1) ++ flat_map (λ need. entry_bytes (entry_in pool need)) pool

@@ -1,8 +1,9 @@
 ghost use Rattle.std.specs.Prelude.{◌≡◌, [], ◌∷◌, ◌++◌, OnOk, length};
 ghost use Rattle.std.specs.Int.{w16, to_be_bytes};
 ghost use Rattle.std.specs.List.{flat_map};
-ghost use Rattle.class_desc.specs.Layout.{TextNeed, ClassNeed, class_needs, super_needs, field_needs, method_needs, needs, member_bytes, field_bytes, method_bytes};
-ghost use Rattle.class_writer.specs.Writing.{Writes, need_seen, number_bytes, class_number_bytes, super_bytes, body_bytes};
+ghost use Rattle.class_desc.specs.Pool.{entry_bytes};
+ghost use Rattle.class_desc.specs.Layout.{TextNeed, ClassNeed, class_needs, super_needs, field_needs, method_needs, needs, entry_in, number_in, member_bytes, field_bytes, method_bytes};
+ghost use Rattle.class_writer.specs.Writing.{Writes, need_seen, number_bytes, class_number_bytes, super_bytes, body_bytes, pool_bytes};
 
 use crate::error::PoolErr;
 use crate::key::Key;
@@ -11,6 +12,12 @@ use hdr_core::Text;
 use indexmap::IndexSet;
 use std::alloc::Global;
 use std::marker::Model;
+
+/// The tag of a text in the pool (JVMS 4.4.7).
+const UTF8: u8 = 1;
+
+/// The tag of a class in the pool (JVMS 4.4.1).
+const CLASS: u8 = 7;
 
 /// Writes the low 16 bits of a number, the high byte first.
 pub fn put_u16(out: &mut Vec<u8>, number: usize) -> Result<(), PoolErr>
@@ -155,5 +162,41 @@ impl<'a> ClassWriter<'a> {
         self.number(methods.len())?;
         self.method_list(methods)?;
         self.number(0)
+    }
+
+    /// The number of an entry of the pool: they count from 1 (JVMS 4.1).
+    fn number_of(&self, key: &Key<'a>) -> usize
+        ensures { result ≡ number_in self.now.pool (need_seen key.now) }
+    {
+        self.keys.get_index_of(key).unwrap_or(self.keys.len()) + 1
+    }
+
+    /// Writes an entry of the pool (JVMS 4.4.7, 4.4.1).
+    fn put_entry(&self, out: &mut Vec<u8>, key: &Key<'a>) -> Result<(), PoolErr>
+        ensures { OnOk result (out.new.items ≡ out.old.items ++ entry_bytes (entry_in self.now.pool (need_seen key.now))) }
+    {
+        match key {
+            Key::Text(text) => {
+                out.push(UTF8)?;
+                put_u16(out, text.len())?;
+                out.extend_from_slice(text)?;
+                Ok(())
+            }
+            Key::Class(name) => {
+                out.push(CLASS)?;
+                put_u16(out, self.number_of(&Key::Text(name)))
+            }
+        }
+    }
+
+    /// Writes the pool behind its count (JVMS 4.1).
+    fn put_pool(&self, out: &mut Vec<u8>) -> Result<(), PoolErr>
+        ensures { OnOk result (out.new.items ≡ out.old.items ++ pool_bytes self.now.pool) }
+    {
+        put_u16(out, self.keys.len() + 1)?;
+        for key in self.keys.iter() {
+            self.put_entry(out, key)?;
+        }
+        Ok(())
     }
 }
