@@ -1,13 +1,14 @@
 -- The first refusal, over lists in parts.
 use Rattle.std.proofs.Common.{◌≡◌, List, [], ◌∷◌, ◌++◌, refl, sym, ap, ◌∙◌}
-use Rattle.std.specs.Prelude.{ℕ, Option, Some, None}
+use Rattle.std.specs.Prelude.{ℕ, Option, Some, None, Result, Ok, Err}
 use Rattle.std.specs.List.{flat_map}
 use Rattle.class_desc.specs.declared.class.ClassDesc.{ClassDesc}
 use Rattle.class_desc.specs.declared.class.FieldDesc.{FieldDesc}
 use Rattle.class_desc.specs.declared.class.MethodDesc.{MethodDesc}
 use Rattle.class_desc.specs.Layout.{Need, class_needs, super_needs, needs, field_needs, method_needs}
 use Rattle.class_writer.specs.declared.error.PoolErr.{PoolErr}
-use Rattle.class_writer.specs.Refusal.{or_next, first_refusal, text_refusal, super_refusal, need_refusal, field_refusal, method_refusal}
+use Rattle.class_writer.specs.Refusal.{or_next, first_refusal, text_refusal, super_refusal, need_refusal, field_refusal, method_refusal, checked, IsCause}
+use Rattle.class_writer.specs.declared.error.PoolErr.TheVariants.{TextTooLong, TooMany, PoolFull, Memory}
 
 or_next_assoc : (a b c : Option PoolErr) → or_next (or_next a b) c ≡ or_next a (or_next b c)
 or_next_assoc None b c = refl
@@ -59,3 +60,27 @@ texts_refusal d =
                 refusal_append need_refusal fields methods
                 ∙ ap (λ r. or_next r (first_refusal need_refusal methods)) (of_fields d.fields)
                 ∙ ap (or_next (first_refusal field_refusal d.fields)) (of_methods d.methods))))
+
+-- what the answers of the three checks say
+
+pub no_refusal : (a b c : Option PoolErr) → Ok tt ≡ checked a → Ok tt ≡ checked b → Ok tt ≡ checked c → or_next a (or_next b c) ≡ None
+no_refusal None None c x y z = by c z
+  where
+    by : (c : Option PoolErr) → Ok tt ≡ checked c → c ≡ None
+    by None z = refl
+    by (Some e) z = absurd (cc)
+no_refusal None (Some e) c x y z = absurd (cc)
+no_refusal (Some e) b c x y z = absurd (cc)
+
+pub third_refusal : (a b c : Option PoolErr) (e : PoolErr) → Ok tt ≡ checked a → Ok tt ≡ checked b → Err e ≡ checked c → or_next a (or_next b c) ≡ Some e
+third_refusal None None None e x y z = absurd (cc)
+third_refusal None None (Some f) e x y z = cc
+third_refusal None (Some f) c e x y z = absurd (cc)
+third_refusal (Some f) b c e x y z = absurd (cc)
+
+-- a refusal that was found is the cause
+pub is_cause : (e : PoolErr) (refused : Option PoolErr) → refused ≡ Some e → IsCause e refused
+is_cause Memory refused h = tt
+is_cause (TextTooLong length) refused h = h
+is_cause (TooMany count) refused h = h
+is_cause (PoolFull needed) refused h = h

@@ -1,11 +1,12 @@
 -- How a class file is put together: what stands behind the pool is written item by item, while the pool is gathered.
 use Rattle.std.specs.Prelude.{◌≡◌, ℕ, ◌+◌, List, [], ◌∷◌, ◌++◌, Option, Some, None, length, map}
 use Rattle.std.specs.List.{flat_map}
-use Rattle.std.specs.Int.{w16, to_be_bytes}
+use Rattle.std.specs.Int.{w16, w32, to_be_bytes}
 use Rattle.indexmap.specs.IndexSet.{insert_all}
 use Rattle.class_desc.specs.declared.class.ClassDesc.{ClassDesc}
 use Rattle.class_desc.specs.declared.class.FieldDesc.{FieldDesc}
 use Rattle.class_desc.specs.declared.class.MethodDesc.{MethodDesc}
+use Rattle.class_desc.specs.ClassFile.{magic}
 use Rattle.class_desc.specs.Pool.{entry_bytes}
 use Rattle.class_desc.specs.Layout.{Need, TextNeed, ClassNeed, is_need, entry_in, number_in, super_number, counted, field_bytes, method_bytes, attributes_bytes}
 use Rattle.class_writer.specs.declared.key.Key.{Key}
@@ -43,6 +44,18 @@ body_bytes d pool =
     ++ (counted (class_number_bytes pool) d.interfaces
     ++ (counted (field_bytes pool) d.fields ++ (counted (method_bytes pool) d.methods ++ attributes_bytes)))))
 
+-- these entries of the pool
+abbrev pub entries_bytes : List Need → List Need → List ℕ
+entries_bytes pool needs = flat_map (λ need. entry_bytes (entry_in pool need)) needs
+
 -- the pool behind its count (JVMS 4.1)
 abbrev pub pool_bytes : List Need → List ℕ
-pool_bytes pool = to_be_bytes w16 (length pool + 1) ++ flat_map (λ need. entry_bytes (entry_in pool need)) pool
+pool_bytes pool = to_be_bytes w16 (length pool + 1) ++ entries_bytes pool pool
+
+-- what stands before the pool (JVMS 4.1)
+abbrev pub head_bytes : ℕ → ℕ → List ℕ
+head_bytes minor major = to_be_bytes w32 magic ++ (to_be_bytes w16 minor ++ to_be_bytes w16 major)
+
+-- the file of a draft that is whole
+abbrev pub file_of_draft : ℕ → ℕ → Draft → List ℕ
+file_of_draft minor major draft = head_bytes minor major ++ (pool_bytes draft.pool ++ draft.body)

@@ -1,8 +1,6 @@
 ghost use Rattle.std.specs.Prelude.{◌≡◌};
 ghost use Rattle.class_writer.specs.declared.error.PoolErr.TheVariants.{Memory};
 
-use std::alloc::{AllocError, AllocFailed};
-
 /// Why a description has no class file, in the order of the checks.
 #[derive(Clone, Copy, Debug, PartialEq, Eq)]
 pub enum PoolErr {
@@ -16,18 +14,10 @@ pub enum PoolErr {
     Memory,
 }
 
-impl From<AllocError> for PoolErr {
+impl From<hdr_core::Memory> for PoolErr {
     ghost from_gives = { λ _ e. e ≡ Memory };
 
-    fn from(_refused: AllocError) -> PoolErr {
-        PoolErr::Memory
-    }
-}
-
-impl<T: Drop> From<AllocFailed<T>> for PoolErr {
-    ghost from_gives = { λ _ e. e ≡ Memory };
-
-    fn from(_refused: AllocFailed<T>) -> PoolErr {
+    fn from(_refused: hdr_core::Memory) -> PoolErr {
         PoolErr::Memory
     }
 }

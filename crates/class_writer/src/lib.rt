@@ -6,6 +6,8 @@
 mod check;
 mod error;
 mod key;
+mod write;
 mod writer;
 
 pub use error::PoolErr;
+pub use write::write_class;
