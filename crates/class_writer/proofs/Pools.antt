@@ -1,11 +1,11 @@
 -- The pool of a file, entry by entry, and the file that is put together.
 use Rattle.std.proofs.Common.{◌≡◌, ℕ, ◌+◌, List, [], ◌∷◌, ◌++◌, length, map, refl, sym, ap, ◌∙◌, append_assoc, append-nil}
 use Rattle.std.specs.List.{flat_map}
-use Rattle.std.specs.Int.{w16, to_be_bytes}
+use Rattle.std.specs.Int.{w16, w32, to_be_bytes}
 use Rattle.std.proofs.lemmas.List.{length-map}
 use Rattle.indexmap.specs.IndexSet.{insert_all}
 use Rattle.class_desc.specs.declared.class.ClassDesc.{ClassDesc}
-use Rattle.class_desc.specs.ClassFile.{file_bytes}
+use Rattle.class_desc.specs.ClassFile.{magic}
 use Rattle.class_desc.specs.Pool.{entry_bytes}
 use Rattle.class_desc.specs.Layout.{Need, ClassNeed, is_need, needs, pool_of, entry_in, number_in, parts_over, file_over, layout, counted, field_bytes, method_bytes, attributes_bytes}
 use Rattle.class_writer.specs.declared.key.Key.{Key}
@@ -39,12 +39,21 @@ flat_map_map f g (x ∷ xs) = ap (λ t. f (g x) ++ t) (flat_map_map f g xs)
 -- the parts, put together, are the file over this pool
 together : (d : ClassDesc) (pool : List Need) → head_bytes d.minor d.major ++ (pool_bytes pool ++ body_bytes d pool) ≡ file_over pool d
 together d pool =
-    let numbers : flat_map (to_be_bytes w16) (map (λ name. number_in pool (ClassNeed name)) d.interfaces) ≡ flat_map (class_number_bytes pool) d.interfaces =
-        flat_map_map (to_be_bytes w16) (λ name. number_in pool (ClassNeed name)) d.interfaces in
-    let entries : flat_map entry_bytes (map (entry_in pool) pool) ≡ entries_bytes pool pool = flat_map_map entry_bytes (entry_in pool) pool in
-    let interfaces : length (map (λ name. number_in pool (ClassNeed name)) d.interfaces) ≡ length d.interfaces = length-map d.interfaces (λ name. number_in pool (ClassNeed name)) in
-    let count : length (map (entry_in pool) pool) ≡ length pool = length-map pool (entry_in pool) in
-    ?
+    sym (
+        ap (λ n. file n (flat_map entry_bytes (map (entry_in pool) pool)) (length numbers) (flat_map (to_be_bytes w16) numbers)) (length-map pool (entry_in pool))
+        ∙ ap (λ entries. file (length pool) entries (length numbers) (flat_map (to_be_bytes w16) numbers)) (flat_map_map entry_bytes (entry_in pool) pool)
+        ∙ ap (λ n. file (length pool) (entries_bytes pool pool) n (flat_map (to_be_bytes w16) numbers)) (length-map d.interfaces (λ name. number_in pool (ClassNeed name)))
+        ∙ ap (file (length pool) (entries_bytes pool pool) (length d.interfaces)) (flat_map_map (to_be_bytes w16) (λ name. number_in pool (ClassNeed name)) d.interfaces))
+  where
+    numbers : List ℕ
+    numbers = map (λ name. number_in pool (ClassNeed name)) d.interfaces
+    file : ℕ → List ℕ → ℕ → List ℕ → List ℕ
+    file entry_count entries interface_count interfaces =
+        to_be_bytes w32 magic ++ (to_be_bytes w16 d.minor ++ (to_be_bytes w16 d.major
+        ++ (to_be_bytes w16 (entry_count + 1) ++ (entries
+        ++ (to_be_bytes w16 d.flags ++ (number_bytes (ClassNeed d.name) pool ++ (super_bytes d.super_name pool
+        ++ (to_be_bytes w16 interface_count ++ (interfaces
+        ++ (counted (field_bytes pool) d.fields ++ (counted (method_bytes pool) d.methods ++ attributes_bytes)))))))))))
 
 -- the pool that is gathered
 pub pool_written_is : (d : ClassDesc) (first last : Draft) → first ≡ record { pool = []; body = [] } → Writes (needs d) (body_bytes d) first last → last.pool ≡ pool_of d
