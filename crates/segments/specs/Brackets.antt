@@ -1,5 +1,5 @@
 -- The brackets of a list of tokens (JLS 3.11), and which of them don't pair.
-use Rattle.std.specs.Prelude.{◌≡◌, ℕ, Bool, true, false, ◌==◌, if◌then◌else◌, List, [], ◌∷◌, map, count_by, Option, Some, None}
+use Rattle.std.specs.Prelude.{◌≡◌, ℕ, ◌+◌, Bool, true, false, ◌==◌, if◌then◌else◌, List, [], ◌∷◌, map, Option, Some, None}
 use Rattle.java_token.specs.declared.token.Token.{Token}
 use Rattle.java_token.specs.declared.token.TokenKind.{TokenKind}
 use Rattle.java_token.specs.declared.token.TokenKind.TheVariants as kind
@@ -43,11 +43,16 @@ abbrev pub is_closing : Mark → Bool
 is_closing (Closing pair) = true
 is_closing _ = false
 
+-- how many of these tokens are so
+abbrev pub count : (Token → Bool) → List Token → ℕ
+count is [] = 0
+count is (t ∷ ts) = if is t then 1 + count is ts else count is ts
+
 abbrev pub opens : List Token → ℕ
-opens tokens = count_by (λ t. is_opening (mark_of t)) tokens
+opens tokens = count (λ t. is_opening (mark_of t)) tokens
 
 abbrev pub closes : List Token → ℕ
-closes tokens = count_by (λ t. is_closing (mark_of t)) tokens
+closes tokens = count (λ t. is_closing (mark_of t)) tokens
 
 -- whether the place behind these tokens, of a list whose brackets pair, is outside all brackets
 unfoldable pub is_outside : List Token → Bool

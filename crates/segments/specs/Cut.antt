@@ -1,5 +1,5 @@
 -- The segments of a list of tokens whose brackets pair.
-use Rattle.std.specs.Prelude.{ℕ, zero, suc, Bool, true, false, not, ◌==◌, ◌&&◌, ◌||◌, if◌then◌else◌, List, [], ◌∷◌, ◌++◌, map, length, count_by, Option, Some, None, Result, Ok, Err}
+use Rattle.std.specs.Prelude.{ℕ, zero, suc, Bool, true, false, not, ◌==◌, ◌&&◌, ◌||◌, if◌then◌else◌, List, [], ◌∷◌, ◌++◌, map, length, Option, Some, None, Result, Ok, Err}
 use Rattle.std.specs.List.{list_any}
 use Rattle.java_token.specs.declared.token.Token.{Token}
 use Rattle.segments.specs.declared.bracket.Mark.{Mark}
@@ -8,7 +8,7 @@ use Rattle.segments.specs.declared.bracket.Pair.TheVariants.{Braces}
 use Rattle.segments.specs.declared.segment.Segment.{Segment}
 use Rattle.segments.specs.declared.segment.SegEnd.{SegEnd}
 use Rattle.segments.specs.declared.segment.SegEnd.TheVariants.{Semi, Body, Skipped, Tail}
-use Rattle.segments.specs.Brackets.{mark_of, is_outside}
+use Rattle.segments.specs.Brackets.{mark_of, count, is_outside}
 use Rattle.segments.specs.Words.{is_semicolon, is_assign, is_dot, is_default, begins_class}
 
 -- ---- pieces: a list whose brackets pair, cut at each place outside all brackets, so that a piece is
@@ -76,7 +76,7 @@ behind_ends before (p ∷ ps) = if ends before p then behind_ends [] ps else beh
 
 -- the place behind these tokens is in no group in braces
 abbrev pub is_outside_braces : List Token → Bool
-is_outside_braces before = count_by opens_braces before == count_by closes_braces before
+is_outside_braces before = count opens_braces before == count closes_braces before
 
 -- the tokens that stand in no group in braces, and the braces of the outermost such groups
 abbrev pub braces_alone_from : List Token → List Token → List Token

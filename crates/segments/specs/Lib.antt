@@ -1,3 +1,6 @@
 pub mod Brackets
 pub mod Words
 pub mod Cut
+pub mod Stack
+pub mod Levels
+pub mod Steps

@@ -1,5 +1,5 @@
 ghost use Rattle.std.specs.Prelude.{◌≡◌};
-ghost use Rattle.segments.specs.Brackets.{mark_of};
+ghost use Rattle.segments.specs.Brackets.{mark_of, is_opening, is_closing};
 
 use java_token::{OpTok, Token, TokenKind};
 
@@ -36,5 +36,17 @@ impl Mark {
             },
             _ => Mark::Plain,
         }
+    }
+
+    pub fn is_opening(self) -> bool
+        ensures { result ≡ is_opening self }
+    {
+        matches!(&self, Mark::Opening(_))
+    }
+
+    pub fn is_closing(self) -> bool
+        ensures { result ≡ is_closing self }
+    {
+        matches!(&self, Mark::Closing(_))
     }
 }

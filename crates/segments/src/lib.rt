@@ -2,8 +2,13 @@
 #![tactic(auto)]
 
 mod bracket;
+mod class_head;
+mod cutter;
 mod error;
+mod level;
+mod list;
 mod segment;
+mod words;
 
 pub use error::SegErr;
 pub use segment::{SegEnd, Segment};
