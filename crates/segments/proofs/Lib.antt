@@ -1,2 +1,4 @@
 pub mod Stacks
 pub mod ClassHeads
+pub mod Forests
+pub mod Pieces
