@@ -2,3 +2,4 @@ pub mod Stacks
 pub mod ClassHeads
 pub mod Forests
 pub mod Pieces
+pub mod Alone
