@@ -3,3 +3,4 @@ pub mod ClassHeads
 pub mod Forests
 pub mod Pieces
 pub mod Alone
+pub mod Heads
