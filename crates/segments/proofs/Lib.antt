@@ -4,3 +4,4 @@ pub mod Forests
 pub mod Pieces
 pub mod Alone
 pub mod Heads
+pub mod Running
