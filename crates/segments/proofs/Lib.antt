@@ -5,3 +5,4 @@ pub mod Pieces
 pub mod Alone
 pub mod Heads
 pub mod Running
+pub mod Outside

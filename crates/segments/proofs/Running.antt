@@ -83,7 +83,7 @@ grown_group : (l : Level) (o : Token) (xs : List Token) (c : Token) (ys : List T
     → grown (stored (grown (stored l o) xs) c) ys ≡ grown l (o ∷ (xs ++ c ∷ ys))
 grown_group l o xs c ys = ap (λ h. record l { head = h }) (simp append_assoc)
 
-place_in_unassigned : (p : Pair) → place_in p false ≡ place.Inside
+pub place_in_unassigned : (p : Pair) → place_in p false ≡ place.Inside
 place_in_unassigned Parentheses = refl
 place_in_unassigned Brackets = refl
 place_in_unassigned Braces = refl
