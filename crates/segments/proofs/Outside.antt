@@ -230,3 +230,204 @@ first_line_class : (head : List Token) (t : Token) → is_class_head head ≡ tr
 unfolding is_class_head
 first_line_class [] t e = cc
 first_line_class (u ∷ us) t e = refl
+
+-- the level behind a segment with this end
+abbrev closed_level : ℕ → List Segment → List Piece → SegEnd → Level
+closed_level n done before end = level_of n (done ++ record { head = head_of before; end = end } ∷ []) []
+
+segment_is : (n : ℕ) (before : List Piece) (o : Token) (rest : List Token) (b : Bool) → is_semicolon o ≡ false → is_class_head (head_of before) ≡ b
+    → segment_of (body_within n) (before, o ∷ rest)
+      ≡ record { head = head_of before; end = cond b (body_within n o.line (without_last rest)) (Skipped o.line) }
+segment_is n before o rest b s h =
+    let of : SegEnd → Segment = λ x. record { head = head_of before; end = x } in
+    ap (λ x. of (cond x Semi (cond (is_class_head (head_of before)) (body_within n o.line (without_last rest)) (Skipped o.line)))) s
+    ∙ ap (λ x. of (cond x (body_within n o.line (without_last rest)) (Skipped o.line))) h
+
+depth_is : (n : ℕ) (before : List Piece) (o : Token) (rest : List Token) (b : Bool) → is_semicolon o ≡ false → is_class_head (head_of before) ≡ b
+    → depth_of (deep_within n) (before, o ∷ rest) ≡ cond b (deep_within n (line_of (head_of before)) (without_last rest)) None
+depth_is n before o rest b s h =
+    ap (λ x. cond x None (cond (is_class_head (head_of before)) (deep_within n (line_of (head_of before)) (without_last rest)) None)) s
+    ∙ ap (λ x. cond x (deep_within n (line_of (head_of before)) (without_last rest)) None) h
+
+-- the state behind a group that ends a segment
+target : (n : ℕ) (done : List Segment) (before : List Piece) (bs : List Open) (d : Option ℕ) (o : Token) (rest : List Token) (b : Bool) → is_semicolon o ≡ false → is_class_head (head_of before) ≡ b
+    → at (closed_level n done before (cond b (body_within n o.line (without_last rest)) (Skipped o.line))) bs place.Outside
+         (either d (cond b (deep_within n (line_of (head_of before)) (without_last rest)) None))
+      ≡ at (level_of n (done ++ segment_of (body_within n) (before, o ∷ rest) ∷ []) []) bs place.Outside (either d (depth_of (deep_within n) (before, o ∷ rest)))
+target n done before bs d o rest b s h =
+    ap (λ x. at (level_of n (done ++ x ∷ []) []) bs place.Outside (either d (cond b (deep_within n (line_of (head_of before)) (without_last rest)) None)))
+      (sym (segment_is n before o rest b s h))
+    ∙ ap (λ x. at (level_of n (done ++ segment_of (body_within n) (before, o ∷ rest) ∷ []) []) bs place.Outside (either d x)) (sym (depth_is n before o rest b s h))
+
+-- the step at its opening brace
+ending_opened : (l : Level) (bs : List Open) (d : Option ℕ) (o : Token) (b : Bool) → mark_of o ≡ Opening Braces → is_ending Braces l ≡ true → is_class_head l.head ≡ b
+    → step (at l bs place.Outside d) o
+      ≡ cond b (cond (l.left == 0) (skipping (noted_deep (at l bs place.Outside d) o) o) (body (at l bs place.Outside d) o)) (skipping (at l bs place.Outside d) o)
+ending_opened l bs d o b eo h k =
+    let s = at l bs place.Outside d in
+    step_opening l bs place.Outside d Braces o eo
+    ∙ ap (λ x. cond x (ending s o) (opened_in_head (behind_default s) Braces o group.Outer)) h
+    ∙ ap (λ x. cond x (cond (l.left == 0) (skipping (noted_deep s o) o) (body s o)) (skipping s o)) k
+
+skipped_run : (n : ℕ) (done : List Segment) (before : List Piece) (bs : List Open) (d : Option ℕ) (o : Token) → mark_of o ≡ Opening Braces
+    → (i : Forest) (c : Token) → mark_of c ≡ Closing Braces → (ys : List Token) (s : Cutter)
+    → is_ending Braces (level_of n done before) ≡ true → is_class_head (head_of before) ≡ false
+    → run (at (level_of n (done ++ segment_of (body_within n) (before, o ∷ (flat i ++ c ∷ [])) ∷ []) []) bs place.Outside
+            (either d (depth_of (deep_within n) (before, o ∷ (flat i ++ c ∷ []))))) ys ≡ s
+    → run (at (level_of n done before) bs place.Outside d) (o ∷ (flat i ++ c ∷ ys)) ≡ s
+skipped_run n done before bs d o eo i c ec ys s h k after =
+    let l = level_of n done before in
+    run_group _ _ _ _ _ o (flat i) c ys
+      (ending_opened l bs d o false eo h k)
+      (hidden_run i l (bs ++ entry Braces o group.Skipped ∷ []) d)
+      (step_closing l bs place.Hidden d Braces o group.Skipped c ec
+        ∙ ap (λ x. at (closed_level n done before (Skipped o.line)) bs place.Outside x) (sym (either_none d))
+        ∙ target n done before bs d o (flat i ++ c ∷ []) false (opening_no_semicolon o Braces eo) k)
+      after
+
+too_deep_run : (done : List Segment) (before : List Piece) (bs : List Open) (d : Option ℕ) (o : Token) → mark_of o ≡ Opening Braces
+    → (i : Forest) (c : Token) → mark_of c ≡ Closing Braces → (ys : List Token) (s : Cutter)
+    → is_ending Braces (level_of zero done before) ≡ true → is_class_head (head_of before) ≡ true
+    → run (at (level_of zero (done ++ segment_of (body_within zero) (before, o ∷ (flat i ++ c ∷ [])) ∷ []) []) bs place.Outside
+            (either d (depth_of (deep_within zero) (before, o ∷ (flat i ++ c ∷ []))))) ys ≡ s
+    → run (at (level_of zero done before) bs place.Outside d) (o ∷ (flat i ++ c ∷ ys)) ≡ s
+too_deep_run done before bs d o eo i c ec ys s h k after =
+    let l = level_of zero done before in
+    let e = or_else d (first_line_or (head_of before) o) in
+    run_group _ _ _ _ _ o (flat i) c ys
+      (ending_opened l bs d o true eo h k)
+      (hidden_run i l (bs ++ entry Braces o group.Skipped ∷ []) e)
+      (step_closing l bs place.Hidden e Braces o group.Skipped c ec
+        ∙ ap (λ x. at (closed_level zero done before (Skipped o.line)) bs place.Outside x)
+            (or_else_either d (first_line_or (head_of before) o) ∙ ap (λ x. either d (Some x)) (first_line_class (head_of before) o k))
+        ∙ target zero done before bs d o (flat i ++ c ∷ []) true (opening_no_semicolon o Braces eo) k)
+      after
+
+-- what a level holds at the end of a class body
+level_segments : (m : ℕ) (i : Forest)
+    → segments_of (level_of m (map (segment_of (body_within m)) (between_ends [] (pieces_of i))) (behind_ends [] (pieces_of i))) ≡ cut_within m (flat i)
+level_segments m i =
+    ap (λ ps. map (segment_of (body_within m)) (between_ends [] ps) ++ tail_of (head_of (behind_ends [] ps))) (sym (pieces_flat i))
+    ∙ sym (cut_by_body m (flat i))
+
+level_deep : (m : ℕ) (i : Forest) → first_some (map (depth_of (deep_within m)) (between_ends [] (pieces_of i))) ≡ deep_beyond m (flat i)
+level_deep m i =
+    ap (λ ps. first_some (map (depth_of (deep_within m)) (between_ends [] ps))) (sym (pieces_flat i)) ∙ sym (deep_by_body m (flat i))
+
+suc_less : (m : ℕ) → suc m - 1 ≡ m
+suc_less m = omega arith
+
+body_run : (m : ℕ) (done : List Segment) (before : List Piece) (bs : List Open) (d : Option ℕ) (o : Token) → mark_of o ≡ Opening Braces
+    → (i : Forest) (c : Token) → mark_of c ≡ Closing Braces → (ys : List Token) (s : Cutter)
+    → is_ending Braces (level_of (suc m) done before) ≡ true → is_class_head (head_of before) ≡ true
+    → ((inner : List Open) → run (at (level_of m [] []) inner place.Outside d) (flat i) ≡ after m [] [] inner d (pieces_of i))
+    → run (at (level_of (suc m) (done ++ segment_of (body_within (suc m)) (before, o ∷ (flat i ++ c ∷ [])) ∷ []) []) bs place.Outside
+            (either d (depth_of (deep_within (suc m)) (before, o ∷ (flat i ++ c ∷ []))))) ys ≡ s
+    → run (at (level_of (suc m) done before) bs place.Outside d) (o ∷ (flat i ++ c ∷ ys)) ≡ s
+body_run m done before bs d o eo i c ec ys s h k inside behind =
+    let l = level_of (suc m) done before in
+    let st = at l bs place.Outside d in
+    let opened_here = bs ++ entry Braces o (group.Body l) ∷ [] in
+    let inner = level_of m (map (segment_of (body_within m)) (between_ends [] (pieces_of i))) (behind_ends [] (pieces_of i)) in
+    let deep = first_some (map (depth_of (deep_within m)) (between_ends [] (pieces_of i))) in
+    run_group _ _ _ _ _ o (flat i) c ys
+      (ending_opened l bs d o true eo h k
+        ∙ ap (λ b. cond b (skipping (noted_deep st o) o) (body st o)) (eqb-suc-zero m)
+        ∙ ap (λ x. at (fresh x) opened_here place.Outside d) (suc_less m))
+      (inside opened_here)
+      (step_closing inner bs place.Outside (either d deep) Braces o (group.Body l) c ec
+        ∙ ap (λ x. at (closed_level (suc m) done before (Body x)) bs place.Outside (either d deep)) (level_segments m i)
+        ∙ ap (λ x. at (closed_level (suc m) done before (Body (cut_within m (flat i)))) bs place.Outside (either d x)) (level_deep m i)
+        ∙ ap (λ x. at (closed_level (suc m) done before (Body (cut_within m x))) bs place.Outside (either d (deep_beyond m x))) (sym (without_last_end (flat i) c))
+        ∙ target (suc m) done before bs d o (flat i ++ c ∷ []) true (opening_no_semicolon o Braces eo) k)
+      behind
+
+-- ---- the whole forest
+
+or_nothing : (b : Bool) → (b || false) ≡ b
+or_nothing true = refl
+or_nothing false = refl
+
+group_level : (p : Pair) (o : Token) (eo : mark_of o ≡ Opening p) (i : Forest) (c : Token) (ec : mark_of c ≡ Closing p) (n : ℕ) (done : List Segment) (before : List Piece)
+    → grown (settled (level_of n done before)) (kept (is_assigned before) (Group p o eo i c ec Nothing)) ≡ level_of n done (before ++ (o ∷ (flat i ++ c ∷ [])) ∷ [])
+group_level p o eo i c ec n done before =
+    let piece = o ∷ (flat i ++ c ∷ []) in
+    grown_by n done before piece (kept (is_assigned before) (Group p o eo i c ec Nothing)) (is_assigned before) false
+      (ap (λ x. cond (is_assigned before) x piece) (alone_whole (Group p o eo i c ec Nothing)))
+      (ap (λ b. is_assigned before || b) (opening_no_assign o p eo) ∙ or_nothing (is_assigned before))
+      (opening_no_default o p eo)
+
+going_run : (f : Forest) (p : Pair) (o : Token) (eo : mark_of o ≡ Opening p) (i : Forest) (c : Token) (ec : mark_of c ≡ Closing p)
+    (n : ℕ) (done : List Segment) (before : List Piece) (bs : List Open) (d : Option ℕ)
+    → is_ending p (level_of n done before) ≡ false
+    → run (at (level_of n done (before ++ (o ∷ (flat i ++ c ∷ [])) ∷ [])) bs place.Outside d) (flat f) ≡ after n done (before ++ (o ∷ (flat i ++ c ∷ [])) ∷ []) bs d (pieces_of f)
+    → run (at (level_of n done before) bs place.Outside d) (o ∷ (flat i ++ c ∷ flat f)) ≡ after n done before bs d ((o ∷ (flat i ++ c ∷ [])) ∷ pieces_of f)
+going_run f p o eo i c ec n done before bs d h behind =
+    outer_run (level_of n done before) bs d p o eo i c ec (flat f) _ h
+      (ap (λ x. run (at x bs place.Outside d) (flat f)) (group_level p o eo i c ec n done before)
+        ∙ behind ∙ after_going n done before bs d (o ∷ (flat i ++ c ∷ [])) (pieces_of f) (ends_group p n done before o (flat i ++ c ∷ []) eo ∙ h))
+
+end_zero : (f : Forest) (p : Pair) (o : Token) (eo : mark_of o ≡ Opening p) (i : Forest) (c : Token) (ec : mark_of c ≡ Closing p)
+    (done : List Segment) (before : List Piece) (bs : List Open) (d : Option ℕ)
+    → is_ending p (level_of zero done before) ≡ true
+    → ((so_far : List Segment) (deep : Option ℕ) → run (at (level_of zero so_far []) bs place.Outside deep) (flat f) ≡ after zero so_far [] bs deep (pieces_of f))
+    → run (at (level_of zero done before) bs place.Outside d) (o ∷ (flat i ++ c ∷ flat f)) ≡ after zero done before bs d ((o ∷ (flat i ++ c ∷ [])) ∷ pieces_of f)
+end_zero f p o eo i c ec done before bs d h behind = by (is_class_head (head_of before)) refl where
+  braces : p ≡ Braces
+  braces = ending_braces p (level_of zero done before) h
+  rest : run (at (level_of zero (done ++ segment_of (body_within zero) (before, o ∷ (flat i ++ c ∷ [])) ∷ []) []) bs place.Outside
+          (either d (depth_of (deep_within zero) (before, o ∷ (flat i ++ c ∷ []))))) (flat f) ≡ after zero done before bs d ((o ∷ (flat i ++ c ∷ [])) ∷ pieces_of f)
+  rest = behind _ _ ∙ after_end zero done before bs d (o ∷ (flat i ++ c ∷ [])) (pieces_of f) (ends_group p zero done before o (flat i ++ c ∷ []) eo ∙ h)
+  by : (b : Bool) → is_class_head (head_of before) ≡ b
+      → run (at (level_of zero done before) bs place.Outside d) (o ∷ (flat i ++ c ∷ flat f)) ≡ after zero done before bs d ((o ∷ (flat i ++ c ∷ [])) ∷ pieces_of f)
+  by false k = skipped_run zero done before bs d o (eo ∙ ap Opening braces) i c (ec ∙ ap Closing braces) (flat f) _
+      (ap (λ q. is_ending q (level_of zero done before)) (sym braces) ∙ h) k rest
+  by true k = too_deep_run done before bs d o (eo ∙ ap Opening braces) i c (ec ∙ ap Closing braces) (flat f) _
+      (ap (λ q. is_ending q (level_of zero done before)) (sym braces) ∙ h) k rest
+
+end_suc : (f : Forest) (p : Pair) (o : Token) (eo : mark_of o ≡ Opening p) (i : Forest) (c : Token) (ec : mark_of c ≡ Closing p)
+    (m : ℕ) (done : List Segment) (before : List Piece) (bs : List Open) (d : Option ℕ)
+    → is_ending p (level_of (suc m) done before) ≡ true
+    → ((inner : List Open) → run (at (level_of m [] []) inner place.Outside d) (flat i) ≡ after m [] [] inner d (pieces_of i))
+    → ((so_far : List Segment) (deep : Option ℕ) → run (at (level_of (suc m) so_far []) bs place.Outside deep) (flat f) ≡ after (suc m) so_far [] bs deep (pieces_of f))
+    → run (at (level_of (suc m) done before) bs place.Outside d) (o ∷ (flat i ++ c ∷ flat f)) ≡ after (suc m) done before bs d ((o ∷ (flat i ++ c ∷ [])) ∷ pieces_of f)
+end_suc f p o eo i c ec m done before bs d h inside behind = by (is_class_head (head_of before)) refl where
+  braces : p ≡ Braces
+  braces = ending_braces p (level_of (suc m) done before) h
+  rest : run (at (level_of (suc m) (done ++ segment_of (body_within (suc m)) (before, o ∷ (flat i ++ c ∷ [])) ∷ []) []) bs place.Outside
+          (either d (depth_of (deep_within (suc m)) (before, o ∷ (flat i ++ c ∷ []))))) (flat f) ≡ after (suc m) done before bs d ((o ∷ (flat i ++ c ∷ [])) ∷ pieces_of f)
+  rest = behind _ _ ∙ after_end (suc m) done before bs d (o ∷ (flat i ++ c ∷ [])) (pieces_of f) (ends_group p (suc m) done before o (flat i ++ c ∷ []) eo ∙ h)
+  by : (b : Bool) → is_class_head (head_of before) ≡ b
+      → run (at (level_of (suc m) done before) bs place.Outside d) (o ∷ (flat i ++ c ∷ flat f)) ≡ after (suc m) done before bs d ((o ∷ (flat i ++ c ∷ [])) ∷ pieces_of f)
+  by false k = skipped_run (suc m) done before bs d o (eo ∙ ap Opening braces) i c (ec ∙ ap Closing braces) (flat f) _
+      (ap (λ q. is_ending q (level_of (suc m) done before)) (sym braces) ∙ h) k rest
+  by true k = body_run m done before bs d o (eo ∙ ap Opening braces) i c (ec ∙ ap Closing braces) (flat f) _
+      (ap (λ q. is_ending q (level_of (suc m) done before)) (sym braces) ∙ h) k inside rest
+
+pub outside_run : (f : Forest) (n : ℕ) (done : List Segment) (before : List Piece) (bs : List Open) (d : Option ℕ)
+    → run (at (level_of n done before) bs place.Outside d) (flat f) ≡ after n done before bs d (pieces_of f)
+outside_run Nothing n done before bs d =
+    ap (λ x. at (level_of n x before) bs place.Outside d) (sym (append-nil done))
+    ∙ ap (λ x. at (level_of n (done ++ []) before) bs place.Outside x) (sym (either_none d))
+outside_run (Single t e f) n done before bs d = by (is_semicolon t) refl (outside_run f n) where
+  by : (b : Bool) → is_semicolon t ≡ b
+      → ((so_far : List Segment) (ps : List Piece) (os : List Open) (deep : Option ℕ) → run (at (level_of n so_far ps) os place.Outside deep) (flat f) ≡ after n so_far ps os deep (pieces_of f))
+      → run (at (level_of n done before) bs place.Outside d) (t ∷ flat f) ≡ after n done before bs d ((t ∷ []) ∷ pieces_of f)
+  by true s behind = run_single _ _ _ t (flat f) (semicolon_step n done before bs d t e s)
+      (behind _ [] bs _ ∙ after_end n done before bs d (t ∷ []) (pieces_of f) (ends_single before t e ∙ s))
+  by false s behind = run_single _ _ _ t (flat f) (other_step n done before bs d t e s)
+      (behind done (before ++ (t ∷ []) ∷ []) bs d ∙ after_going n done before bs d (t ∷ []) (pieces_of f) (ends_single before t e ∙ s))
+outside_run (Group p o eo i c ec f) zero done before bs d = by (is_ending p (level_of zero done before)) refl (outside_run f zero) where
+  by : (b : Bool) → is_ending p (level_of zero done before) ≡ b
+      → ((so_far : List Segment) (ps : List Piece) (os : List Open) (deep : Option ℕ) → run (at (level_of zero so_far ps) os place.Outside deep) (flat f) ≡ after zero so_far ps os deep (pieces_of f))
+      → run (at (level_of zero done before) bs place.Outside d) (o ∷ (flat i ++ c ∷ flat f)) ≡ after zero done before bs d ((o ∷ (flat i ++ c ∷ [])) ∷ pieces_of f)
+  by false h behind = going_run f p o eo i c ec zero done before bs d h (behind done _ bs d)
+  by true h behind = end_zero f p o eo i c ec done before bs d h (λ so_far deep. behind so_far [] bs deep)
+outside_run (Group p o eo i c ec f) (suc m) done before bs d =
+    by (is_ending p (level_of (suc m) done before)) refl (outside_run f (suc m)) (outside_run i m) where
+  by : (b : Bool) → is_ending p (level_of (suc m) done before) ≡ b
+      → ((so_far : List Segment) (ps : List Piece) (os : List Open) (deep : Option ℕ) → run (at (level_of (suc m) so_far ps) os place.Outside deep) (flat f) ≡ after (suc m) so_far ps os deep (pieces_of f))
+      → ((so_far : List Segment) (ps : List Piece) (os : List Open) (deep : Option ℕ) → run (at (level_of m so_far ps) os place.Outside deep) (flat i) ≡ after m so_far ps os deep (pieces_of i))
+      → run (at (level_of (suc m) done before) bs place.Outside d) (o ∷ (flat i ++ c ∷ flat f)) ≡ after (suc m) done before bs d ((o ∷ (flat i ++ c ∷ [])) ∷ pieces_of f)
+  by false h behind inside = going_run f p o eo i c ec (suc m) done before bs d h (behind done _ bs d)
+  by true h behind inside = end_suc f p o eo i c ec m done before bs d h (λ inner. inside [] [] inner d) (λ so_far deep. behind so_far [] bs deep)
