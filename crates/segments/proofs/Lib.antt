@@ -6,3 +6,4 @@ pub mod Alone
 pub mod Heads
 pub mod Running
 pub mod Outside
+pub mod Wrong

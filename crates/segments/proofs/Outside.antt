@@ -221,7 +221,7 @@ ends_group p n done before o rest e =
   by Brackets = refl
   by Braces = refl
 
-ending_braces : (p : Pair) (l : Level) → is_ending p l ≡ true → p ≡ Braces
+pub ending_braces : (p : Pair) (l : Level) → is_ending p l ≡ true → p ≡ Braces
 ending_braces Parentheses l e = cc
 ending_braces Brackets l e = cc
 ending_braces Braces l e = refl
