@@ -7,3 +7,5 @@ pub mod Heads
 pub mod Running
 pub mod Outside
 pub mod Wrong
+pub mod Depth
+pub mod Whole

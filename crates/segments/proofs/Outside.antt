@@ -106,6 +106,7 @@ body_within zero = λ line inside. Skipped line
 body_within (suc most) = λ line inside. Body (cut_within most inside)
 
 pub cut_by_body : (n : ℕ) (tokens : List Token) → cut_within n tokens ≡ cut_by (body_within n) tokens
+unfolding cut_within
 cut_by_body zero tokens = refl
 cut_by_body (suc n) tokens = refl
 
@@ -114,6 +115,7 @@ deep_within zero = λ line inside. Some line
 deep_within (suc most) = λ line inside. deep_beyond most inside
 
 pub deep_by_body : (n : ℕ) (tokens : List Token) → deep_beyond n tokens ≡ deep_by (deep_within n) tokens
+unfolding deep_beyond
 deep_by_body zero tokens = refl
 deep_by_body (suc n) tokens = refl
 
@@ -135,7 +137,7 @@ or_else_either (Some other) line = refl
 or_else_either None line = refl
 
 -- where the cutter is behind these pieces
-abbrev after : ℕ → List Segment → List Piece → List Open → Option ℕ → List Piece → Cutter
+abbrev pub after : ℕ → List Segment → List Piece → List Open → Option ℕ → List Piece → Cutter
 after n done before bs d ps =
     at (level_of n (done ++ map (segment_of (body_within n)) (between_ends before ps)) (behind_ends before ps)) bs place.Outside
        (either d (first_some (map (depth_of (deep_within n)) (between_ends before ps))))
@@ -167,7 +169,7 @@ or_false : (b c : Bool) → (b || (false && c)) ≡ b
 or_false true c = refl
 or_false false c = refl
 
-ends_single : (before : List Piece) (t : Token) → mark_of t ≡ Plain → ends before (t ∷ []) ≡ is_semicolon t
+pub ends_single : (before : List Piece) (t : Token) → mark_of t ≡ Plain → ends before (t ∷ []) ≡ is_semicolon t
 unfolding opens_braces
 ends_single before t e =
     ap (λ m. is_semicolon t || (mark_is_braces m && not (is_assigned before || last_begins is_default before))) e
@@ -208,7 +210,7 @@ other_step n done before bs d t e s =
 
 -- ---- a group that ends a segment
 
-ends_group : (p : Pair) (n : ℕ) (done : List Segment) (before : List Piece) (o : Token) (rest : List Token) → mark_of o ≡ Opening p
+pub ends_group : (p : Pair) (n : ℕ) (done : List Segment) (before : List Piece) (o : Token) (rest : List Token) → mark_of o ≡ Opening p
     → ends before (o ∷ rest) ≡ is_ending p (level_of n done before)
 unfolding opens_braces
 ends_group p n done before o rest e =
@@ -235,7 +237,7 @@ first_line_class (u ∷ us) t e = refl
 abbrev closed_level : ℕ → List Segment → List Piece → SegEnd → Level
 closed_level n done before end = level_of n (done ++ record { head = head_of before; end = end } ∷ []) []
 
-segment_is : (n : ℕ) (before : List Piece) (o : Token) (rest : List Token) (b : Bool) → is_semicolon o ≡ false → is_class_head (head_of before) ≡ b
+pub segment_is : (n : ℕ) (before : List Piece) (o : Token) (rest : List Token) (b : Bool) → is_semicolon o ≡ false → is_class_head (head_of before) ≡ b
     → segment_of (body_within n) (before, o ∷ rest)
       ≡ record { head = head_of before; end = cond b (body_within n o.line (without_last rest)) (Skipped o.line) }
 segment_is n before o rest b s h =
@@ -243,7 +245,7 @@ segment_is n before o rest b s h =
     ap (λ x. of (cond x Semi (cond (is_class_head (head_of before)) (body_within n o.line (without_last rest)) (Skipped o.line)))) s
     ∙ ap (λ x. of (cond x (body_within n o.line (without_last rest)) (Skipped o.line))) h
 
-depth_is : (n : ℕ) (before : List Piece) (o : Token) (rest : List Token) (b : Bool) → is_semicolon o ≡ false → is_class_head (head_of before) ≡ b
+pub depth_is : (n : ℕ) (before : List Piece) (o : Token) (rest : List Token) (b : Bool) → is_semicolon o ≡ false → is_class_head (head_of before) ≡ b
     → depth_of (deep_within n) (before, o ∷ rest) ≡ cond b (deep_within n (line_of (head_of before)) (without_last rest)) None
 depth_is n before o rest b s h =
     ap (λ x. cond x None (cond (is_class_head (head_of before)) (deep_within n (line_of (head_of before)) (without_last rest)) None)) s
@@ -304,13 +306,13 @@ too_deep_run done before bs d o eo i c ec ys s h k after =
       after
 
 -- what a level holds at the end of a class body
-level_segments : (m : ℕ) (i : Forest)
+pub level_segments : (m : ℕ) (i : Forest)
     → segments_of (level_of m (map (segment_of (body_within m)) (between_ends [] (pieces_of i))) (behind_ends [] (pieces_of i))) ≡ cut_within m (flat i)
 level_segments m i =
     ap (λ ps. map (segment_of (body_within m)) (between_ends [] ps) ++ tail_of (head_of (behind_ends [] ps))) (sym (pieces_flat i))
     ∙ sym (cut_by_body m (flat i))
 
-level_deep : (m : ℕ) (i : Forest) → first_some (map (depth_of (deep_within m)) (between_ends [] (pieces_of i))) ≡ deep_beyond m (flat i)
+pub level_deep : (m : ℕ) (i : Forest) → first_some (map (depth_of (deep_within m)) (between_ends [] (pieces_of i))) ≡ deep_beyond m (flat i)
 level_deep m i =
     ap (λ ps. first_some (map (depth_of (deep_within m)) (between_ends [] ps))) (sym (pieces_flat i)) ∙ sym (deep_by_body m (flat i))
 

@@ -143,7 +143,7 @@ cut_by body tokens =
     map (segment_of body) (between_ends [] (pieces tokens)) ++ tail_of (head_of (behind_ends [] (pieces tokens)))
 
 -- the segments, where a class body in more than `most` class bodies, itself counted, is left uncut
-abbrev pub cut_within : ℕ → List Token → List Segment
+unfoldable pub cut_within : ℕ → List Token → List Segment
 cut_within zero tokens = cut_by (λ line inside. Skipped line) tokens
 cut_within (suc most) tokens = cut_by (λ line inside. Body (cut_within most inside)) tokens
 
@@ -163,6 +163,6 @@ abbrev pub deep_by : (ℕ → List Token → Option ℕ) → List Token → Opti
 deep_by body tokens = first_some (map (depth_of body) (between_ends [] (pieces tokens)))
 
 -- the line of the head of the first class body that stands in more than `most`, itself counted
-abbrev pub deep_beyond : ℕ → List Token → Option ℕ
+unfoldable pub deep_beyond : ℕ → List Token → Option ℕ
 deep_beyond zero tokens = deep_by (λ line inside. Some line) tokens
 deep_beyond (suc most) tokens = deep_by (λ line inside. deep_beyond most inside) tokens

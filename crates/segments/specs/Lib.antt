@@ -4,3 +4,5 @@ pub mod Cut
 pub mod Stack
 pub mod Levels
 pub mod Steps
+pub mod Finish
+pub mod Answer

@@ -1,11 +1,13 @@
 ghost use Rattle.std.specs.Prelude.{◌≡◌, OnOk};
+ghost use Rattle.segments.specs.Finish.{finished, Gives};
 ghost use Rattle.segments.specs.Steps.{start, step, plain, noted, noted_deep, skipping, ending, is_ending, opened_in_head, opened, closed, closed_group};
 
 use crate::bracket::{Mark, Pair};
+use crate::error::SegErr;
 use crate::class_head::is_class_head;
 use crate::level::Level;
 use crate::list::{pop, push};
-use crate::segment::SegEnd;
+use crate::segment::{SegEnd, Segment};
 use crate::words::{is_assign, is_default, is_semicolon};
 use hdr_core::{List, Memory};
 use java_token::Token;
@@ -87,6 +89,29 @@ impl Cutter {
             Mark::Closing(pair) => self.close(alloc, pair, token),
             Mark::Plain => self.plain(alloc, token),
         }
+    }
+
+    /// The list ends.
+    pub fn finish(self, alloc: Global) -> Result<List<Segment>, SegErr>
+        ensures { Gives result (finished self) }
+    {
+        let Cutter {
+            level,
+            brackets,
+            place: _,
+            deep,
+            wrong,
+        } = self;
+        if let Some(line) = wrong {
+            return Err(SegErr::Unbalanced { line });
+        }
+        if let [first, ..] = brackets.items() {
+            return Err(SegErr::Unbalanced { line: first.line });
+        }
+        if let Some(line) = deep {
+            return Err(SegErr::TooDeep { line });
+        }
+        Ok(level.into_segments(alloc)?)
     }
 
     fn plain(&mut self, alloc: Global, token: &Token) -> Result<(), Memory>

@@ -3,6 +3,7 @@
 
 mod bracket;
 mod class_head;
+mod cut;
 mod cutter;
 mod error;
 mod level;
@@ -10,5 +11,6 @@ mod list;
 mod segment;
 mod words;
 
+pub use cut::segments;
 pub use error::SegErr;
 pub use segment::{SegEnd, Segment};
