@@ -1,7 +1,9 @@
 -- The answer for a whole list.
-use Rattle.std.proofs.Common.{◌≡◌, refl, sym, ◌∙◌, ap, subst, ℕ, ◌≤◌, arith, Bool, true, false, cond, List, [], ◌∷◌, ◌++◌, append-nil, length, drop, map, Option, Some, None, Result, Ok, Err}
+use Rattle.std.proofs.Common.{◌≡◌, refl, sym, ◌∙◌, ap, subst, ℕ, ◌≤◌, arith, Bool, true, false, cond, List, [], ◌∷◌, ◌++◌, append_assoc, append-nil, length, drop, map, Option, Some, None, Result, Ok, Err}
 use Rattle.std.proofs.lemmas.List.{drop_all}
 use Rattle.java_token.specs.declared.token.Token.{Token}
+use Rattle.segments.specs.declared.bracket.Pair.{Pair}
+use Rattle.segments.specs.declared.bracket.Pair.TheVariants.{Parentheses, Brackets, Braces}
 use Rattle.segments.specs.declared.bracket.Mark.TheVariants.{Opening, Closing, Plain}
 use Rattle.segments.specs.declared.segment.Segment.{Segment}
 use Rattle.segments.specs.declared.error.SegErr.{SegErr}
@@ -10,13 +12,13 @@ use Rattle.segments.specs.declared.level.Level.{Level}
 use Rattle.segments.specs.declared.cutter.Cutter.{Cutter}
 use Rattle.segments.specs.declared.cutter.Open.{Open}
 use Rattle.segments.specs.declared.cutter.Place.TheVariants as place
-use Rattle.segments.specs.Brackets.{is_closing, Bracket, bracket_of, unpaired, first_line, first_wrong, wrong_line}
+use Rattle.segments.specs.Brackets.{mark_of, same_pair, IsBalanced, no_token, single, in_group, is_closing, Bracket, bracket_of, in_front, unpaired, first_line, first_wrong, wrong_line}
 use Rattle.segments.specs.Cut.{between_ends, behind_ends, segment_of, depth_of, first_some, cut_within, deep_beyond}
 use Rattle.segments.specs.Levels.{fresh, segments_of}
 use Rattle.segments.specs.Steps.{start, run}
 use Rattle.segments.specs.Finish.{finished_by, finished, Gives}
 use Rattle.segments.specs.Answer.{cut, Answers}
-use Rattle.segments.proofs.Forests.{Forest, flat, spelt, left_out, Spread, spread}
+use Rattle.segments.proofs.Forests.{Forest, Nothing, Single, Group, flat, spelt, left_out, Spread, spread}
 use Rattle.segments.proofs.Pieces.{pieces_of}
 use Rattle.segments.proofs.Running.{at}
 use Rattle.segments.proofs.Outside.{either, level_of, body_within, deep_within, after, outside_run, level_segments, level_deep}
@@ -61,6 +63,39 @@ forest_of tokens e =
     let s = spread tokens in
     let none = s.left ∙ none_left (unpaired (map bracket_of tokens)) e in
     (s.front, sym (append-nil (flat s.front)) ∙ ap (λ x. flat s.front ++ x) (sym (none_spelt s.rest none)) ∙ s.parts)
+
+balanced_flat : (f : Forest) → IsBalanced (flat f)
+balanced_flat Nothing = no_token
+balanced_flat (Single t e f) = single t (flat f) e (balanced_flat f)
+balanced_flat (Group p o eo i c ec f) = in_group p o (flat i) c (flat f) eo (balanced_flat i) ec (balanced_flat f)
+
+pub balanced : (tokens : List Token) → wrong_line tokens ≡ None → IsBalanced tokens
+balanced tokens e = let f = forest_of tokens e in subst IsBalanced f.1 (balanced_flat f.0)
+
+same_self : (p : Pair) → same_pair p p ≡ true
+same_self Parentheses = refl
+same_self Brackets = refl
+same_self Braces = refl
+
+-- a balanced list in front of another leaves nothing of its own
+none_in_front : {tokens : List Token} → IsBalanced tokens → (rest : List Token)
+    → unpaired (map bracket_of (tokens ++ rest)) ≡ unpaired (map bracket_of rest)
+none_in_front no_token rest = refl
+none_in_front (single t behind e h) rest = ap (λ m. in_front m t.line (unpaired (map bracket_of (behind ++ rest)))) e ∙ none_in_front h rest
+none_in_front (in_group p o inside c behind eo hi ec hb) rest =
+    let u = unpaired (map bracket_of (behind ++ rest)) in
+    ap (λ x. in_front (mark_of o) o.line (unpaired (map bracket_of x))) (append_assoc inside (c ∷ behind) rest)
+    ∙ ap (in_front (mark_of o) o.line) (none_in_front hi (c ∷ (behind ++ rest)) ∙ ap (λ m. in_front m c.line u) ec)
+    ∙ ap (λ m. in_front m o.line (record { mark = Closing p; line = c.line } ∷ u)) eo
+    ∙ ap (λ b. cond b u (record { mark = Opening p; line = o.line } ∷ record { mark = Closing p; line = c.line } ∷ u)) (same_self p)
+    ∙ none_in_front hb rest
+
+pub never_wrong : (tokens : List Token) → IsBalanced tokens → wrong_line tokens ≡ None
+unfolding wrong_line
+never_wrong tokens h = ap (λ x. wrong_among (unpaired (map bracket_of x))) (sym (append-nil tokens)) ∙ ap wrong_among (none_in_front h [])
+
+unbalanced : (tokens : List Token) (line : ℕ) → wrong_line tokens ≡ Some line → IsBalanced tokens → ⊥
+unbalanced tokens line e h = let n = never_wrong tokens h in cc
 
 finished_paired : (n : ℕ) (f : Forest) → finished (run (at (fresh n) [] place.Outside None) (flat f)) ≡ answer_by None (deep_beyond n (flat f)) (cut_within n (flat f))
 finished_paired n f =
@@ -129,9 +164,9 @@ answers n tokens r g =
     by r (fits (wrong_line tokens) (deep_beyond n tokens) (cut_within n tokens) (cut tokens) (whole_cut n tokens) r (subst (λ x. Gives r x) (whole n tokens) g))
   where
   by : (r : Result (List Segment) SegErr) → Fits (wrong_line tokens) (deep_beyond n tokens) (cut tokens) r → Answers n tokens r
-  by (Ok segments) h = h
-  by (Err (Unbalanced line)) h = h
-  by (Err (TooDeep line)) h = h
+  by (Ok segments) h = (balanced tokens h.0, h.1, h.2)
+  by (Err (Unbalanced line)) h = (unbalanced tokens line h, h)
+  by (Err (TooDeep line)) h = (balanced tokens h.0, h.1)
   by (Err Memory) h = h
 
 -- the end of the tokens

@@ -1,5 +1,5 @@
 -- The brackets of a list of tokens (JLS 3.11), and which of them don't pair.
-use Rattle.std.specs.Prelude.{◌≡◌, ℕ, ◌+◌, Bool, true, false, ◌==◌, if◌then◌else◌, List, [], ◌∷◌, map, Option, Some, None}
+use Rattle.std.specs.Prelude.{◌≡◌, ℕ, ◌+◌, Bool, true, false, ◌==◌, if◌then◌else◌, List, [], ◌∷◌, ◌++◌, map, Option, Some, None}
 use Rattle.java_token.specs.declared.token.Token.{Token}
 use Rattle.java_token.specs.declared.token.TokenKind.{TokenKind}
 use Rattle.java_token.specs.declared.token.TokenKind.TheVariants as kind
@@ -32,6 +32,14 @@ same_pair Parentheses Parentheses = true
 same_pair Brackets Brackets = true
 same_pair Braces Braces = true
 same_pair _ _ = false
+
+-- the brackets of a list pair: it is empty, or begins with a token that is no bracket, or with a group
+pub data IsBalanced : List Token → Type 0 where
+  no_token : IsBalanced []
+  single : (t : Token) (behind : List Token) → mark_of t ≡ Plain → IsBalanced behind → IsBalanced (t ∷ behind)
+  in_group : (pair : Pair) (opening : Token) (inside : List Token) (closing : Token) (behind : List Token)
+    → mark_of opening ≡ Opening pair → IsBalanced inside → mark_of closing ≡ Closing pair → IsBalanced behind
+    → IsBalanced (opening ∷ (inside ++ closing ∷ behind))
 
 -- ---- what stands outside all brackets
 
@@ -85,10 +93,6 @@ in_front (Opening pair) line (next ∷ left) =
 abbrev pub unpaired : List Bracket → List Bracket
 unpaired [] = []
 unpaired (b ∷ bs) = in_front b.mark b.line (unpaired bs)
-
--- the brackets pair
-abbrev pub IsBalanced : List Token → Type 0
-IsBalanced tokens = unpaired (map bracket_of tokens) ≡ []
 
 abbrev pub first_line : List Bracket → Option ℕ
 first_line [] = None
