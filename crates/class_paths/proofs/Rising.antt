@@ -1,5 +1,5 @@
 -- Lists of paths that rise: two of them with the same members are one.
-use Rattle.std.proofs.Common.{◌≡◌, ◌⊎◌, ℕ, List, [], ◌∷◌, refl, sym, ap, subst, ◌∙◌, inl, inr, ⊎_elim}
+use Rattle.std.proofs.Common.{◌≡◌, ◌⊎◌, ℕ, List, [], ◌∷◌, ◌++◌, refl, sym, ap, subst, ◌∙◌, inl, inr, ⊎_elim}
 use Rattle.std.specs.declared.cmp.Ordering.{Ordering}
 use Rattle.std.specs.declared.cmp.Ordering.TheVariants.{Less, Equal, Greater}
 use Rattle.std.specs.Ordering.{nat_cmp, match_ordering, ordering_reverse}
@@ -128,3 +128,7 @@ rises_same (x ∷ xs) (y ∷ ys) r s m =
     let there : (z : Path) → Among z xs → Among z ys = λ z h. ⊎_elim (λ e. absurd (not_first x z xs r.0 h (e ∙ sym heads))) (λ g. g) (m.0 z (inr h)) in
     let back : (z : Path) → Among z ys → Among z xs = λ z h. ⊎_elim (λ e. absurd (not_first y z ys s.0 h (e ∙ heads))) (λ g. g) (m.1 z (inr h)) in
     ap (λ z. z ∷ xs) heads ∙ ap (λ zs. y ∷ zs) (rises_same xs ys r.1 s.1 (there, back))
+
+pub each_more : (done paths : List Path) (p : Path) → insert_each done (paths ++ p ∷ []) ≡ insert_key cmp (insert_each done paths) p
+each_more done [] p = refl
+each_more done (q ∷ qs) p = each_more (insert_key cmp done q) qs p

@@ -1,6 +1,7 @@
 //! The tokens of Java (JLS 3.8 to 3.12).
 #![tactic(auto)]
 
+mod copy;
 mod keyword;
 mod operator;
 mod token;

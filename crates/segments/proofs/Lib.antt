@@ -1,0 +1,11 @@
+pub mod Stacks
+pub mod ClassHeads
+pub mod Forests
+pub mod Pieces
+pub mod Alone
+pub mod Heads
+pub mod Running
+pub mod Outside
+pub mod Wrong
+pub mod Depth
+pub mod Whole

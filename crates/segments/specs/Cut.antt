@@ -1,0 +1,168 @@
+-- The segments of a list of tokens whose brackets pair.
+use Rattle.std.specs.Prelude.{ℕ, zero, suc, Bool, true, false, not, ◌==◌, ◌&&◌, ◌||◌, if◌then◌else◌, List, [], ◌∷◌, ◌++◌, map, length, Option, Some, None, Result, Ok, Err}
+use Rattle.std.specs.List.{list_any}
+use Rattle.java_token.specs.declared.token.Token.{Token}
+use Rattle.segments.specs.declared.bracket.Mark.{Mark}
+use Rattle.segments.specs.declared.bracket.Mark.TheVariants.{Opening, Closing}
+use Rattle.segments.specs.declared.bracket.Pair.TheVariants.{Braces}
+use Rattle.segments.specs.declared.segment.Segment.{Segment}
+use Rattle.segments.specs.declared.segment.SegEnd.{SegEnd}
+use Rattle.segments.specs.declared.segment.SegEnd.TheVariants.{Semi, Body, Skipped, Tail}
+use Rattle.segments.specs.Brackets.{mark_of, count, is_outside}
+use Rattle.segments.specs.Words.{is_semicolon, is_assign, is_dot, is_default, begins_class}
+
+-- ---- pieces: a list whose brackets pair, cut at each place outside all brackets, so that a piece is
+-- one token that is no bracket, or one group with its brackets
+
+abbrev pub Piece : Type 0
+Piece = List Token
+
+abbrev pub pieces_from : Piece → List Token → List Piece
+pieces_from piece [] = if (0 == length piece) then [] else piece ∷ []
+pieces_from piece (t ∷ ts) =
+    if is_outside (piece ++ t ∷ []) then (piece ++ t ∷ []) ∷ pieces_from [] ts else pieces_from (piece ++ t ∷ []) ts
+
+abbrev pub pieces : List Token → List Piece
+pieces tokens = pieces_from [] tokens
+
+abbrev pub begins : (Token → Bool) → Piece → Bool
+begins is [] = false
+begins is (t ∷ ts) = is t
+
+-- the last one of these pieces begins so
+abbrev pub last_begins : (Token → Bool) → List Piece → Bool
+last_begins is [] = false
+last_begins is (p ∷ []) = begins is p
+last_begins is (p ∷ q ∷ ps) = last_begins is (q ∷ ps)
+
+abbrev pub mark_is_braces : Mark → Bool
+mark_is_braces (Opening Braces) = true
+mark_is_braces _ = false
+
+abbrev pub mark_ends_braces : Mark → Bool
+mark_ends_braces (Closing Braces) = true
+mark_ends_braces _ = false
+
+unfoldable pub opens_braces : Token → Bool
+opens_braces token = mark_is_braces (mark_of token)
+
+unfoldable pub closes_braces : Token → Bool
+closes_braces token = mark_ends_braces (mark_of token)
+
+-- ---- ends: a place of a list is given by the pieces before it and the piece behind it
+
+-- a `=` outside brackets stands among them
+abbrev pub is_assigned : List Piece → Bool
+is_assigned before = list_any (begins is_assign) before
+
+-- a segment whose pieces are `before` and then `piece` ends behind `piece`:
+-- a `;`, or a group in braces with no `=` before it and no `default` right before it
+abbrev pub ends : List Piece → Piece → Bool
+ends before piece =
+    begins is_semicolon piece || (begins opens_braces piece && not (is_assigned before || last_begins is_default before))
+
+-- what stands between neighbouring ends, where `before` has been seen since the last one:
+-- each time the pieces before the end, and the piece that ends them
+abbrev pub between_ends : List Piece → List Piece → List (List Piece × Piece)
+between_ends before [] = []
+between_ends before (p ∷ ps) = if ends before p then (before, p) ∷ between_ends [] ps else between_ends (before ++ p ∷ []) ps
+
+-- what is left behind the last end
+abbrev pub behind_ends : List Piece → List Piece → List Piece
+behind_ends before [] = before
+behind_ends before (p ∷ ps) = if ends before p then behind_ends [] ps else behind_ends (before ++ p ∷ []) ps
+
+-- ---- heads
+
+-- the place behind these tokens is in no group in braces
+abbrev pub is_outside_braces : List Token → Bool
+is_outside_braces before = count opens_braces before == count closes_braces before
+
+-- the tokens that stand in no group in braces, and the braces of the outermost such groups
+abbrev pub braces_alone_from : List Token → List Token → List Token
+braces_alone_from before [] = []
+braces_alone_from before (t ∷ ts) =
+    if is_outside_braces before || is_outside_braces (before ++ t ∷ []) then t ∷ braces_alone_from (before ++ t ∷ []) ts
+    else braces_alone_from (before ++ t ∷ []) ts
+
+unfoldable pub braces_alone : List Token → List Token
+braces_alone tokens = braces_alone_from [] tokens
+
+-- these pieces written one after the other, where behind a `=` outside brackets each group in braces is its two braces alone
+abbrev pub head_from : Bool → List Piece → List Token
+head_from assigned [] = []
+head_from assigned (p ∷ ps) = (if assigned then braces_alone p else p) ++ head_from (assigned || begins is_assign p) ps
+
+abbrev pub head_of : List Piece → List Token
+head_of before = head_from false before
+
+abbrev pub ends_in_dot : List Token → Bool
+ends_in_dot [] = false
+ends_in_dot (t ∷ []) = is_dot t
+ends_in_dot (t ∷ u ∷ ts) = ends_in_dot (u ∷ ts)
+
+-- at a place outside brackets and not behind `.` stands what makes a declaration one of a class
+abbrev pub declares_class : List Token → List Token → Bool
+declares_class before behind = is_outside before && not (ends_in_dot before) && begins_class behind
+
+abbrev pub some_place : (List Token → List Token → Bool) → List Token → List Token → Bool
+some_place is before [] = false
+some_place is before (t ∷ behind) = is before (t ∷ behind) || some_place is (before ++ t ∷ []) behind
+
+-- the group behind this head is a class body
+unfoldable pub is_class_head : List Token → Bool
+is_class_head head = some_place declares_class [] head
+
+-- ---- the cut
+
+abbrev pub without_last : List Token → List Token
+without_last [] = []
+without_last (t ∷ []) = []
+without_last (t ∷ u ∷ ts) = t ∷ without_last (u ∷ ts)
+
+abbrev pub line_of : List Token → ℕ
+line_of [] = 0
+line_of (t ∷ ts) = t.line
+
+-- the end that a piece is behind a head, where `body` says what becomes of the tokens in a class body
+abbrev pub end_of : (ℕ → List Token → SegEnd) → List Token → Piece → SegEnd
+end_of body head [] = Semi
+end_of body head (t ∷ ts) =
+    if is_semicolon t then Semi else (if is_class_head head then body t.line (without_last ts) else Skipped t.line)
+
+abbrev pub segment_of : (ℕ → List Token → SegEnd) → List Piece × Piece → Segment
+segment_of body part = record { head = head_of part.0; end = end_of body (head_of part.0) part.1 }
+
+-- what is left at the end, if it isn't empty
+abbrev pub tail_of : List Token → List Segment
+tail_of [] = []
+tail_of (t ∷ ts) = record { head = t ∷ ts; end = Tail } ∷ []
+
+abbrev pub cut_by : (ℕ → List Token → SegEnd) → List Token → List Segment
+cut_by body tokens =
+    map (segment_of body) (between_ends [] (pieces tokens)) ++ tail_of (head_of (behind_ends [] (pieces tokens)))
+
+-- the segments, where a class body in more than `most` class bodies, itself counted, is left uncut
+unfoldable pub cut_within : ℕ → List Token → List Segment
+cut_within zero tokens = cut_by (λ line inside. Skipped line) tokens
+cut_within (suc most) tokens = cut_by (λ line inside. Body (cut_within most inside)) tokens
+
+-- ---- depth
+
+abbrev pub first_some : List (Option ℕ) → Option ℕ
+first_some [] = None
+first_some (None ∷ rest) = first_some rest
+first_some (Some line ∷ rest) = Some line
+
+abbrev pub depth_of : (ℕ → List Token → Option ℕ) → List Piece × Piece → Option ℕ
+depth_of body (before, []) = None
+depth_of body (before, t ∷ ts) =
+    if is_semicolon t then None else (if is_class_head (head_of before) then body (line_of (head_of before)) (without_last ts) else None)
+
+abbrev pub deep_by : (ℕ → List Token → Option ℕ) → List Token → Option ℕ
+deep_by body tokens = first_some (map (depth_of body) (between_ends [] (pieces tokens)))
+
+-- the line of the head of the first class body that stands in more than `most`, itself counted
+unfoldable pub deep_beyond : ℕ → List Token → Option ℕ
+deep_beyond zero tokens = deep_by (λ line inside. Some line) tokens
+deep_beyond (suc most) tokens = deep_by (λ line inside. deep_beyond most inside) tokens

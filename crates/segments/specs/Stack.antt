@@ -1,0 +1,12 @@
+-- Lists used as stacks: the last item is the top.
+use Rattle.std.specs.Prelude.{List, [], ◌∷◌, Option, Some, None}
+
+abbrev pub top : {X : Type 0} → List X → Option X
+top [] = None
+top (x ∷ []) = Some x
+top (x ∷ y ∷ xs) = top (y ∷ xs)
+
+abbrev pub below : {X : Type 0} → List X → List X
+below [] = []
+below (x ∷ []) = []
+below (x ∷ y ∷ xs) = x ∷ below (y ∷ xs)

@@ -1,0 +1,16 @@
+//! Declarations cut from tokens, bodies skipped.
+#![tactic(auto)]
+
+mod bracket;
+mod class_head;
+mod cut;
+mod cutter;
+mod error;
+mod level;
+mod list;
+mod segment;
+mod words;
+
+pub use cut::segments;
+pub use error::SegErr;
+pub use segment::{SegEnd, Segment};
