@@ -80,3 +80,6 @@ pub fn print_diags<S: Sink>(alloc: Global, list: &[Diag], sink: &mut S) -> Resul
     }
     Ok(())
 }
+
+#[cfg(test)]
+mod tests;

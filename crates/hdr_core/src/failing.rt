@@ -199,3 +199,6 @@ impl Sink for MemSink {
         Ok(count)
     }
 }
+
+#[cfg(test)]
+mod tests;

@@ -194,3 +194,6 @@ fn write_bytes<W: Write + Drop>(mut file: W, bytes: &[u8]) -> io::Result<()> {
     }
     file.flush()
 }
+
+#[cfg(test)]
+mod tests;
