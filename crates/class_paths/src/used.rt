@@ -57,11 +57,7 @@ fn is_class_path(root: &[u8], path: &[u8]) -> bool
     path.ends_with(b".class") && !is_in_meta_inf(root, path)
 }
 
-fn insert_used(
-    root: &str,
-    listed: &[String],
-    used: &mut BTreeSet<String>,
-) -> Result<(), Memory>
+fn insert_used(root: &str, listed: &[String], used: &mut BTreeSet<String>) -> Result<(), Memory>
     ensures { OnOk result (map string_bytes used.new.keys ≡ insert_each (map string_bytes used.old.keys) (filter (is_class_path_of root.now) (map string_bytes listed.now))) }
 {
     for path in listed {
@@ -73,11 +69,7 @@ fn insert_used(
 }
 
 /// The paths that are used of those that were listed under a root, ordered by their bytes, each once.
-pub fn used_paths(
-    alloc: Global,
-    root: &str,
-    listed: &[String],
-) -> Result<BTreeSet<String>, Memory>
+pub fn used_paths(alloc: Global, root: &str, listed: &[String]) -> Result<BTreeSet<String>, Memory>
     ensures { IfOk result (λ paths. (held : List File) → IsListing held root.now (map string_bytes listed.now) → map string_bytes paths.keys ≡ used held root.now) }
 {
     let mut paths = BTreeSet::new(alloc);

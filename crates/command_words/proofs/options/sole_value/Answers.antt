@@ -26,7 +26,7 @@ returns-then-is_some c =
     let whole = split (map string_bytes c.loop-option.rest.now) option value more (sym c.in-Some.ensures.words) in
     let same : bytes_eq option c.args.name.now ≡ true = rw c.as_bytes.ensures.value at (sym c.eq.ensures ∙ c.if-eq.true) in
     if_some (options (map string_bytes c.args.words.now)) _ (λ given e.
-        second c.args.name.now option value c.loop-option.found more given same (sym c.is_some.ensures ∙ c.if-is_some.true) (subst (λ ws. Left c.args.name.now (text_seen c.loop-option.found) ws given) whole (c.loop-option.invariant given e)))
+    second c.args.name.now option value c.loop-option.found more given same (sym c.is_some.ensures ∙ c.if-is_some.true) (subst (λ ws. Left c.args.name.now (text_seen c.loop-option.found) ws given) whole (c.loop-option.invariant given e)))
 
 pub loop-option-preserved-else-is_some : goal.loop-option-preserved-else-is_some
 loop-option-preserved-else-is_some c =
@@ -49,4 +49,4 @@ loop-option-preserved c =
 pub returns : goal.returns
 returns c =
     if_some (options (map string_bytes c.args.words.now)) _ (λ given e.
-        sym (no_more c.args.name.now (text_seen c.loop-option.found) (map string_bytes c.loop-option.rest.now) given (sym c.in_default.ensures.words) (c.loop-option.invariant given e)))
+    sym (no_more c.args.name.now (text_seen c.loop-option.found) (map string_bytes c.loop-option.rest.now) given (sym c.in_default.ensures.words) (c.loop-option.invariant given e)))
