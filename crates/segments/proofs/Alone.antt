@@ -1,6 +1,6 @@
 -- Groups in braces of which the braces alone are kept.
-use Rattle.std.proofs.Common.{◌≡◌, refl, sym, ◌∙◌, ap, ℕ, ◌+◌, ◌<◌, ◌≤◌, arith, Bool, true, false, ◌==◌, ◌||◌, cond, if◌then◌else◌, List, [], ◌∷◌, ◌++◌, append_assoc, append-nil}
-use Rattle.std.proofs.lemmas.Bool.{ne_eqb, eq-eqb, eqb-true}
+use Rattle.std.proofs.Common.{◌≡◌, refl, sym, ◌∙◌, ap, ℕ, ◌+◌, ◌<◌, arith, Bool, true, false, ◌||◌, cond, if◌then◌else◌, List, [], ◌∷◌, ◌++◌, append_assoc, append-nil}
+use Rattle.std.proofs.lemmas.Bool.{ne_eqb, eq-eqb}
 use Rattle.java_token.specs.declared.token.Token.{Token}
 use Rattle.segments.specs.declared.bracket.Pair.{Pair}
 use Rattle.segments.specs.declared.bracket.Pair.TheVariants.{Parentheses, Brackets, Braces}
@@ -147,7 +147,7 @@ behind_group p o eo i c ec before h =
 -- a group of another kind at such a place, where what it holds is known
 alone_other : (p : Pair) (o : Token) → mark_of o ≡ Opening p → width p ≡ 0 → (i : Forest) (c : Token) → mark_of c ≡ Closing p → (before rest : List Token)
     → begun before ≡ over before → (begun (before ++ o ∷ []) ≡ over (before ++ o ∷ [])
-      → braces_alone_from (before ++ o ∷ []) (flat i ++ c ∷ rest) ≡ alone i ++ braces_alone_from ((before ++ o ∷ []) ++ flat i) (c ∷ rest))
+    → braces_alone_from (before ++ o ∷ []) (flat i ++ c ∷ rest) ≡ alone i ++ braces_alone_from ((before ++ o ∷ []) ++ flat i) (c ∷ rest))
     → braces_alone_from before (o ∷ (flat i ++ c ∷ rest)) ≡ o ∷ (alone i ++ c ∷ braces_alone_from (((before ++ o ∷ []) ++ flat i) ++ c ∷ []) rest)
 alone_other p o eo w i c ec before rest h inside =
     let m = opening_more before p o eo in
@@ -162,9 +162,9 @@ behind_plain t e before h = let m = plain_more before t e in omega (arith, m.0, 
 
 other_flat : (p : Pair) (o : Token) → mark_of o ≡ Opening p → width p ≡ 0 → (i : Forest) (c : Token) → mark_of c ≡ Closing p → (f : Forest) (before rest : List Token)
     → begun before ≡ over before → (begun (before ++ o ∷ []) ≡ over (before ++ o ∷ [])
-      → braces_alone_from (before ++ o ∷ []) (flat i ++ c ∷ (flat f ++ rest)) ≡ alone i ++ braces_alone_from ((before ++ o ∷ []) ++ flat i) (c ∷ (flat f ++ rest)))
+    → braces_alone_from (before ++ o ∷ []) (flat i ++ c ∷ (flat f ++ rest)) ≡ alone i ++ braces_alone_from ((before ++ o ∷ []) ++ flat i) (c ∷ (flat f ++ rest)))
     → (begun (((before ++ o ∷ []) ++ flat i) ++ c ∷ []) ≡ over (((before ++ o ∷ []) ++ flat i) ++ c ∷ [])
-      → braces_alone_from (((before ++ o ∷ []) ++ flat i) ++ c ∷ []) (flat f ++ rest) ≡ alone f ++ braces_alone_from ((((before ++ o ∷ []) ++ flat i) ++ c ∷ []) ++ flat f) rest)
+    → braces_alone_from (((before ++ o ∷ []) ++ flat i) ++ c ∷ []) (flat f ++ rest) ≡ alone f ++ braces_alone_from ((((before ++ o ∷ []) ++ flat i) ++ c ∷ []) ++ flat f) rest)
     → braces_alone_from before ((o ∷ (flat i ++ c ∷ flat f)) ++ rest) ≡ (o ∷ (alone i ++ c ∷ alone f)) ++ braces_alone_from (before ++ (o ∷ (flat i ++ c ∷ flat f))) rest
 other_flat p o eo w i c ec f before rest h inside behind =
     let l = behind_group p o eo i c ec before h in

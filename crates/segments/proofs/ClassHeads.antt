@@ -1,11 +1,11 @@
 -- The search for what makes a declaration one of a class.
-use Rattle.std.proofs.Common.{◌≡◌, refl, sym, ◌∙◌, ap, ℕ, suc, ◌+◌, ◌-◌, ◌<◌, ◌≤◌, add-one, add-zero, arith, Bool, true, false, not, ◌==◌, ◌&&◌, ◌||◌, if◌then◌else◌, cond, List, [], ◌∷◌, ◌++◌, length, take, drop, get_or, drop-cons}
+use Rattle.std.proofs.Common.{◌≡◌, refl, sym, ◌∙◌, ap, ℕ, suc, ◌+◌, ◌-◌, ◌<◌, ◌≤◌, add-one, arith, Bool, true, false, not, ◌==◌, ◌&&◌, cond, List, [], ◌∷◌, ◌++◌, length, take, drop, get_or, drop-cons}
 use Rattle.std.proofs.Math.Seq.{take-suc}
 use Rattle.std.proofs.lemmas.List.{take_rest, drop_all}
 use Rattle.java_token.specs.declared.token.Token.{Token}
-use Rattle.segments.specs.Brackets.{mark_of, is_opening, is_closing, count, opens, closes, is_outside}
+use Rattle.segments.specs.Brackets.{count, opens, closes, is_outside}
 use Rattle.segments.specs.Words.{begins_class, is_dot}
-use Rattle.segments.specs.Cut.{declares_class, ends_in_dot, some_place, is_class_head}
+use Rattle.segments.specs.Cut.{declares_class, ends_in_dot, some_place}
 
 pub ends_in_dot_end : (xs : List Token) (t : Token) → ends_in_dot (xs ++ t ∷ []) ≡ is_dot t
 ends_in_dot_end [] t = refl

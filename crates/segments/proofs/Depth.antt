@@ -1,18 +1,16 @@
 -- Class bodies that don't stand too deep.
-use Rattle.std.proofs.Common.{◌≡◌, refl, sym, ◌∙◌, ap, subst, ℕ, zero, suc, ◌+◌, ◌≤◌, arith, Bool, true, false, not, ◌||◌, ◌&&◌, cond, if◌then◌else◌, List, [], ◌∷◌, ◌++◌, length, length-append, map, Option, Some, None}
+use Rattle.std.proofs.Common.{◌≡◌, refl, sym, ◌∙◌, ap, subst, ℕ, zero, suc, ◌+◌, ◌≤◌, arith, Bool, true, false, cond, if◌then◌else◌, List, [], ◌∷◌, ◌++◌, length, length-append, map, Option, Some, None}
 use Rattle.java_token.specs.declared.token.Token.{Token}
 use Rattle.segments.specs.declared.bracket.Pair.{Pair}
-use Rattle.segments.specs.declared.bracket.Mark.TheVariants.{Opening, Closing, Plain}
-use Rattle.segments.specs.declared.segment.Segment.{Segment}
-use Rattle.segments.specs.declared.segment.SegEnd.{SegEnd}
+use Rattle.segments.specs.declared.bracket.Mark.TheVariants.{Opening}
 use Rattle.segments.specs.declared.segment.SegEnd.TheVariants.{Semi, Body, Skipped}
 use Rattle.segments.specs.Brackets.{mark_of}
 use Rattle.segments.specs.Words.{is_semicolon}
-use Rattle.segments.specs.Cut.{Piece, pieces, ends, between_ends, behind_ends, head_of, is_class_head, line_of, without_last, end_of, segment_of, tail_of, cut_by, cut_within, first_some, depth_of, deep_by, deep_beyond}
+use Rattle.segments.specs.Cut.{Piece, pieces, ends, between_ends, behind_ends, head_of, is_class_head, line_of, without_last, segment_of, tail_of, cut_within, first_some, depth_of, deep_beyond}
 use Rattle.segments.proofs.Forests.{Forest, Nothing, Single, Group, flat}
 use Rattle.segments.proofs.Pieces.{pieces_of, pieces_flat}
 use Rattle.segments.proofs.Heads.{without_last_end, opening_no_semicolon}
-use Rattle.segments.proofs.Outside.{body_within, deep_within, cut_by_body, deep_by_body, ends_single, segment_is, depth_is, level_deep}
+use Rattle.segments.proofs.Outside.{body_within, deep_within, cut_by_body, deep_by_body, ends_single, segment_is, depth_is}
 
 first_none : (x : Option ℕ) (xs : List (Option ℕ)) → first_some (x ∷ xs) ≡ None → x ≡ None
 first_none None xs e = refl
@@ -86,12 +84,12 @@ agree (Single t e f) n k before h = by (ends before (t ∷ [])) refl (λ ps. agr
 agree (Group p o eo i c ec f) n k before h =
     let len = length-append (flat i) (c ∷ flat f) in
     by (ends before (o ∷ (flat i ++ c ∷ []))) refl (λ ps. agree f n k ps (omega arith)) (λ m j s. agree i m j [] s) (omega arith) where
-  by : (b : Bool) → ends before (o ∷ (flat i ++ c ∷ [])) ≡ b → ((ps : List Piece) → Agrees n k (between_ends ps (pieces_of f)))
-      → ((m j : ℕ) → length (flat i) ≤ j → Agrees m j (between_ends [] (pieces_of i))) → length (flat i) + 1 ≤ k
-      → Agrees n k (between_ends before ((o ∷ (flat i ++ c ∷ [])) ∷ pieces_of f))
-  by false x behind inside s = agrees_going n k before (o ∷ (flat i ++ c ∷ [])) (pieces_of f) false x (behind (before ++ (o ∷ (flat i ++ c ∷ [])) ∷ []))
-  by true x behind inside s = agrees_going n k before (o ∷ (flat i ++ c ∷ [])) (pieces_of f) true x
-      (agrees_cons n k (before, o ∷ (flat i ++ c ∷ [])) (between_ends [] (pieces_of f)) (group_same p o eo i c n k before s inside) (behind []))
+      by : (b : Bool) → ends before (o ∷ (flat i ++ c ∷ [])) ≡ b → ((ps : List Piece) → Agrees n k (between_ends ps (pieces_of f)))
+          → ((m j : ℕ) → length (flat i) ≤ j → Agrees m j (between_ends [] (pieces_of i))) → length (flat i) + 1 ≤ k
+          → Agrees n k (between_ends before ((o ∷ (flat i ++ c ∷ [])) ∷ pieces_of f))
+      by false x behind inside s = agrees_going n k before (o ∷ (flat i ++ c ∷ [])) (pieces_of f) false x (behind (before ++ (o ∷ (flat i ++ c ∷ [])) ∷ []))
+      by true x behind inside s = agrees_going n k before (o ∷ (flat i ++ c ∷ [])) (pieces_of f) true x
+          (agrees_cons n k (before, o ∷ (flat i ++ c ∷ [])) (between_ends [] (pieces_of f)) (group_same p o eo i c n k before s inside) (behind []))
 
 -- where no class body stands too deep, the cut is the whole one
 pub cut_whole : (f : Forest) (n k : ℕ) → length (flat f) ≤ k → deep_beyond n (flat f) ≡ None → cut_within n (flat f) ≡ cut_within k (flat f)

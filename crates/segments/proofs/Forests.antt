@@ -1,11 +1,11 @@
 -- Lists of tokens whose brackets pair, as forests of groups.
-use Rattle.std.proofs.Common.{◌≡◌, refl, sym, ◌∙◌, ap, ℕ, Bool, true, false, if◌then◌else◌, List, [], ◌∷◌, ◌++◌, append_assoc, map}
+use Rattle.std.proofs.Common.{◌≡◌, refl, sym, ◌∙◌, ap, Bool, true, false, List, [], ◌∷◌, ◌++◌, append_assoc, map}
 use Rattle.java_token.specs.declared.token.Token.{Token}
 use Rattle.segments.specs.declared.bracket.Pair.{Pair}
 use Rattle.segments.specs.declared.bracket.Pair.TheVariants.{Parentheses, Brackets, Braces}
 use Rattle.segments.specs.declared.bracket.Mark.{Mark}
 use Rattle.segments.specs.declared.bracket.Mark.TheVariants.{Opening, Closing, Plain}
-use Rattle.segments.specs.Brackets.{mark_of, same_pair, Bracket, bracket_of, is_closed_by, in_front, unpaired}
+use Rattle.segments.specs.Brackets.{mark_of, same_pair, Bracket, bracket_of, is_closed_by, unpaired}
 
 pub data Forest : Type 0 where
   Nothing : Forest
@@ -56,7 +56,7 @@ opening t p tokens e f [] left parts = record {
   front = Nothing;
   rest = (t, f) ∷ [];
   left = rw (← left, e) refl;
-  parts = ap (λ x. t ∷ x) parts
+  parts = ap (λ x. t ∷ x) parts;
 }
 opening t p tokens e f ((c, g) ∷ rest) left parts = by (is_closed_by p (mark_of c)) refl where
   by : (b : Bool) → is_closed_by p (mark_of c) ≡ b → Spread (t ∷ tokens)
@@ -64,13 +64,13 @@ opening t p tokens e f ((c, g) ∷ rest) left parts = by (is_closed_by p (mark_o
     front = Group p t e f c (closes_own p (mark_of c) closed) g;
     rest = rest;
     left = rw (← left, e, closed) refl;
-    parts = ap (λ x. t ∷ x) (append_assoc (flat f) (c ∷ flat g) (spelt rest) ∙ parts)
+    parts = ap (λ x. t ∷ x) (append_assoc (flat f) (c ∷ flat g) (spelt rest) ∙ parts);
   }
   by false closed = record {
     front = Nothing;
     rest = (t, f) ∷ (c, g) ∷ rest;
     left = rw (← left, e, closed) refl;
-    parts = ap (λ x. t ∷ x) parts
+    parts = ap (λ x. t ∷ x) parts;
   }
 
 pub spread : (tokens : List Token) → Spread tokens
@@ -81,12 +81,12 @@ spread (t ∷ tokens) = by (mark_of t) refl (spread tokens) where
     front = Single t e s.front;
     rest = s.rest;
     left = rw e s.left;
-    parts = ap (λ x. t ∷ x) s.parts
+    parts = ap (λ x. t ∷ x) s.parts;
   }
   by (Closing p) e s = record {
     front = Nothing;
     rest = (t, s.front) ∷ s.rest;
     left = rw (e, ← s.left) refl;
-    parts = ap (λ x. t ∷ x) s.parts
+    parts = ap (λ x. t ∷ x) s.parts;
   }
   by (Opening p) e s = opening t p tokens e s.front s.rest s.left s.parts

@@ -1,13 +1,12 @@
 -- Heads that grow by a piece, and what an opening bracket isn't.
-use Rattle.std.proofs.Common.{◌≡◌, refl, sym, ◌∙◌, ap, ℕ, Bool, true, false, not, ◌||◌, ◌&&◌, cond, if◌then◌else◌, List, [], ◌∷◌, ◌++◌, append_assoc, append-nil}
+use Rattle.std.proofs.Common.{◌≡◌, refl, sym, ◌∙◌, ap, Bool, true, false, ◌||◌, cond, if◌then◌else◌, List, [], ◌∷◌, ◌++◌, append_assoc, append-nil}
 use Rattle.java_token.specs.declared.token.Token.{Token}
 use Rattle.java_token.specs.declared.token.TokenKind.{TokenKind}
 use Rattle.java_token.specs.declared.token.TokenKind.TheVariants as kind
 use Rattle.java_token.specs.declared.operator.OpTok.TheVariants.{Semicolon, Assign}
 use Rattle.java_token.specs.declared.keyword.Kw.TheVariants as word
 use Rattle.segments.specs.declared.bracket.Pair.{Pair}
-use Rattle.segments.specs.declared.bracket.Mark.{Mark}
-use Rattle.segments.specs.declared.bracket.Mark.TheVariants.{Opening, Closing, Plain}
+use Rattle.segments.specs.declared.bracket.Mark.TheVariants.{Opening}
 use Rattle.segments.specs.Brackets.{mark_of, mark_of_kind}
 use Rattle.segments.specs.Words.{is_semicolon, is_assign, is_default, kind_is_semicolon, kind_is_assign, kind_is_default}
 use Rattle.segments.specs.Cut.{Piece, begins, last_begins, is_assigned, braces_alone, head_from, head_of, without_last}
@@ -38,9 +37,9 @@ head_from_end assigned (q ∷ ps) p =
     ∙ sym (append_assoc (cond assigned (braces_alone q) q) (head_from (assigned || begins is_assign q) ps) _)
     ∙ ap (λ b. head_from assigned (q ∷ ps) ++ cond b (braces_alone p) p) (by assigned (begins is_assign q) (is_assigned ps))
   where
-  by : (a b c : Bool) → ((a || b) || c) ≡ (a || (b || c))
-  by true b c = refl
-  by false b c = refl
+    by : (a b c : Bool) → ((a || b) || c) ≡ (a || (b || c))
+    by true b c = refl
+    by false b c = refl
 
 pub head_end : (ps : List Piece) (p : Piece) → head_of (ps ++ p ∷ []) ≡ head_of ps ++ (if is_assigned ps then braces_alone p else p)
 head_end ps p = head_from_end false ps p

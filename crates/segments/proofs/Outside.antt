@@ -4,11 +4,10 @@ use Rattle.std.proofs.Math.Dec.{eqb-suc-zero}
 use Rattle.java_token.specs.declared.token.Token.{Token}
 use Rattle.segments.specs.declared.bracket.Pair.{Pair}
 use Rattle.segments.specs.declared.bracket.Pair.TheVariants.{Parentheses, Brackets, Braces}
-use Rattle.segments.specs.declared.bracket.Mark.{Mark}
 use Rattle.segments.specs.declared.bracket.Mark.TheVariants.{Opening, Closing, Plain}
 use Rattle.segments.specs.declared.segment.Segment.{Segment}
 use Rattle.segments.specs.declared.segment.SegEnd.{SegEnd}
-use Rattle.segments.specs.declared.segment.SegEnd.TheVariants.{Semi, Body, Skipped, Tail}
+use Rattle.segments.specs.declared.segment.SegEnd.TheVariants.{Semi, Body, Skipped}
 use Rattle.segments.specs.declared.level.Level.{Level}
 use Rattle.segments.specs.declared.cutter.Cutter.{Cutter}
 use Rattle.segments.specs.declared.cutter.Open.{Open}
@@ -16,14 +15,14 @@ use Rattle.segments.specs.declared.cutter.Place.TheVariants as place
 use Rattle.segments.specs.declared.cutter.Group.TheVariants as group
 use Rattle.segments.specs.Brackets.{mark_of}
 use Rattle.segments.specs.Words.{is_semicolon, is_assign, is_default}
-use Rattle.segments.specs.Cut.{Piece, pieces, begins, last_begins, is_assigned, opens_braces, mark_is_braces, ends, between_ends, behind_ends, braces_alone, head_of, is_class_head, line_of, without_last, end_of, segment_of, tail_of, cut_by, cut_within, first_some, depth_of, deep_by, deep_beyond}
+use Rattle.segments.specs.Cut.{Piece, begins, last_begins, is_assigned, opens_braces, mark_is_braces, ends, between_ends, behind_ends, braces_alone, head_of, is_class_head, line_of, without_last, segment_of, tail_of, cut_by, cut_within, first_some, depth_of, deep_by, deep_beyond}
 use Rattle.segments.specs.Levels.{fresh, stored, ended, segments_of}
-use Rattle.segments.specs.Steps.{plain, plain_outside, entry, place_in, is_ending, or_else, first_line_or, noted, noted_deep, skipping, body, ending, behind_default, opened_in_head, opened, closed_group, step, run}
+use Rattle.segments.specs.Steps.{entry, place_in, is_ending, or_else, first_line_or, noted_deep, skipping, body, ending, behind_default, opened_in_head, step, run}
 use Rattle.segments.proofs.Forests.{Forest, Nothing, Single, Group, flat}
 use Rattle.segments.proofs.Pieces.{pieces_of, pieces_flat}
 use Rattle.segments.proofs.Alone.{alone, alone_whole}
 use Rattle.segments.proofs.Heads.{last_begins_end, is_assigned_end, head_end, without_last_end, opening_no_semicolon, opening_no_assign, opening_no_default}
-use Rattle.segments.proofs.Running.{at, step_plain, step_opening, step_closing, run_append, run_single, run_group, hidden_run, grown, place_in_unassigned, inside_all, inside_alone}
+use Rattle.segments.proofs.Running.{at, step_plain, step_opening, step_closing, run_single, run_group, hidden_run, grown, place_in_unassigned, inside_all, inside_alone}
 
 -- ---- a group of the head
 
@@ -51,10 +50,10 @@ outer_all : (l : Level) (bs : List Open) (d : Option ℕ) (p : Pair) (o : Token)
     → run (at l bs place.Outside d) (o ∷ (flat i ++ c ∷ ys)) ≡ s
 outer_all l bs d p o eo i c ec ys s h a after =
     run_group _ _ _ _ _ o (flat i) c ys
-      (outer_opened l bs d p o eo h ∙ ap (λ w. at (stored (settled l) o) (bs ++ entry p o group.Outer ∷ []) w d) (ap (place_in p) a ∙ place_in_unassigned p))
-      (inside_all i (stored (settled l) o) (bs ++ entry p o group.Outer ∷ []) d a)
-      (step_closing _ bs place.Inside d p o group.Outer c ec ∙ ap (λ x. at x bs place.Outside d) (stored_group (settled l) o (flat i) c))
-      after
+    (outer_opened l bs d p o eo h ∙ ap (λ w. at (stored (settled l) o) (bs ++ entry p o group.Outer ∷ []) w d) (ap (place_in p) a ∙ place_in_unassigned p))
+    (inside_all i (stored (settled l) o) (bs ++ entry p o group.Outer ∷ []) d a)
+    (step_closing _ bs place.Inside d p o group.Outer c ec ∙ ap (λ x. at x bs place.Outside d) (stored_group (settled l) o (flat i) c))
+    after
 
 outer_alone : (p : Pair) (l : Level) (bs : List Open) (d : Option ℕ) (o : Token) (eo : mark_of o ≡ Opening p) (i : Forest) (c : Token) (ec : mark_of c ≡ Closing p) (ys : List Token) (s : Cutter)
     → is_ending p l ≡ false → l.is_assigned ≡ true
@@ -62,22 +61,22 @@ outer_alone : (p : Pair) (l : Level) (bs : List Open) (d : Option ℕ) (o : Toke
     → run (at l bs place.Outside d) (o ∷ (flat i ++ c ∷ ys)) ≡ s
 outer_alone Braces l bs d o eo i c ec ys s h a after =
     run_group _ _ _ _ _ o (flat i) c ys
-      (outer_opened l bs d Braces o eo h ∙ ap (λ x. at (stored (settled l) o) (bs ++ entry Braces o group.Outer ∷ []) (place_in Braces x) d) a)
-      (hidden_run i (stored (settled l) o) (bs ++ entry Braces o group.Outer ∷ []) d)
-      (step_closing _ bs place.Hidden d Braces o group.Outer c ec ∙ ap (λ x. at x bs place.Outside d) (stored_braces (settled l) o c))
-      after
+    (outer_opened l bs d Braces o eo h ∙ ap (λ x. at (stored (settled l) o) (bs ++ entry Braces o group.Outer ∷ []) (place_in Braces x) d) a)
+    (hidden_run i (stored (settled l) o) (bs ++ entry Braces o group.Outer ∷ []) d)
+    (step_closing _ bs place.Hidden d Braces o group.Outer c ec ∙ ap (λ x. at x bs place.Outside d) (stored_braces (settled l) o c))
+    after
 outer_alone Parentheses l bs d o eo i c ec ys s h a after =
     run_group _ _ _ _ _ o (flat i) c ys
-      (outer_opened l bs d Parentheses o eo h)
-      (inside_alone i (stored (settled l) o) (bs ++ entry Parentheses o group.Outer ∷ []) d a)
-      (step_closing _ bs place.Inside d Parentheses o group.Outer c ec ∙ ap (λ x. at x bs place.Outside d) (stored_group (settled l) o (alone i) c))
-      after
+    (outer_opened l bs d Parentheses o eo h)
+    (inside_alone i (stored (settled l) o) (bs ++ entry Parentheses o group.Outer ∷ []) d a)
+    (step_closing _ bs place.Inside d Parentheses o group.Outer c ec ∙ ap (λ x. at x bs place.Outside d) (stored_group (settled l) o (alone i) c))
+    after
 outer_alone Brackets l bs d o eo i c ec ys s h a after =
     run_group _ _ _ _ _ o (flat i) c ys
-      (outer_opened l bs d Brackets o eo h)
-      (inside_alone i (stored (settled l) o) (bs ++ entry Brackets o group.Outer ∷ []) d a)
-      (step_closing _ bs place.Inside d Brackets o group.Outer c ec ∙ ap (λ x. at x bs place.Outside d) (stored_group (settled l) o (alone i) c))
-      after
+    (outer_opened l bs d Brackets o eo h)
+    (inside_alone i (stored (settled l) o) (bs ++ entry Brackets o group.Outer ∷ []) d a)
+    (step_closing _ bs place.Inside d Brackets o group.Outer c ec ∙ ap (λ x. at x bs place.Outside d) (stored_group (settled l) o (alone i) c))
+    after
 
 outer_run : (l : Level) (bs : List Open) (d : Option ℕ) (p : Pair) (o : Token) (eo : mark_of o ≡ Opening p) (i : Forest) (c : Token) (ec : mark_of c ≡ Closing p) (ys : List Token) (s : Cutter)
     → is_ending p l ≡ false
@@ -98,7 +97,7 @@ level_of left done before = record {
   done = done;
   head = head_of before;
   is_assigned = is_assigned before;
-  is_behind_default = last_begins is_default before
+  is_behind_default = last_begins is_default before;
 }
 
 abbrev pub body_within : ℕ → ℕ → List Token → SegEnd
@@ -140,13 +139,13 @@ or_else_either None line = refl
 abbrev pub after : ℕ → List Segment → List Piece → List Open → Option ℕ → List Piece → Cutter
 after n done before bs d ps =
     at (level_of n (done ++ map (segment_of (body_within n)) (between_ends before ps)) (behind_ends before ps)) bs place.Outside
-       (either d (first_some (map (depth_of (deep_within n)) (between_ends before ps))))
+    (either d (first_some (map (depth_of (deep_within n)) (between_ends before ps))))
 
 after_by : ℕ → List Segment → List Piece → List Open → Option ℕ → Piece → List Piece → Bool → Cutter
 after_by n done before bs d p ps b =
     at (level_of n (done ++ map (segment_of (body_within n)) (if b then (before, p) ∷ between_ends [] ps else between_ends (before ++ p ∷ []) ps))
-          (if b then behind_ends [] ps else behind_ends (before ++ p ∷ []) ps)) bs place.Outside
-       (either d (first_some (map (depth_of (deep_within n)) (if b then (before, p) ∷ between_ends [] ps else between_ends (before ++ p ∷ []) ps))))
+    (if b then behind_ends [] ps else behind_ends (before ++ p ∷ []) ps)) bs place.Outside
+    (either d (first_some (map (depth_of (deep_within n)) (if b then (before, p) ∷ between_ends [] ps else between_ends (before ++ p ∷ []) ps))))
 
 after_going : (n : ℕ) (done : List Segment) (before : List Piece) (bs : List Open) (d : Option ℕ) (p : Piece) (ps : List Piece) → ends before p ≡ false
     → after n done (before ++ p ∷ []) bs d ps ≡ after n done before bs d (p ∷ ps)
@@ -160,7 +159,7 @@ after_end n done before bs d p ps e =
     let xs = between_ends [] ps in
     ap (λ x. at (level_of n x (behind_ends [] ps)) bs place.Outside (either (either d (depth_of (deep_within n) (before, p))) (first_some (map (depth_of (deep_within n)) xs)))) (append_assoc done (segment_of (body_within n) (before, p) ∷ []) (map (segment_of (body_within n)) xs))
     ∙ ap (λ x. at (level_of n (done ++ map (segment_of (body_within n)) ((before, p) ∷ xs)) (behind_ends [] ps)) bs place.Outside x)
-        (sym (either_first d (depth_of (deep_within n) (before, p)) (map (depth_of (deep_within n)) xs)))
+    (sym (either_first d (depth_of (deep_within n) (before, p)) (map (depth_of (deep_within n)) xs)))
     ∙ sym (ap (after_by n done before bs d p ps) e)
 
 -- ---- one token
@@ -191,14 +190,14 @@ single_alone t e false = refl
 
 semicolon_step : (n : ℕ) (done : List Segment) (before : List Piece) (bs : List Open) (d : Option ℕ) (t : Token) → mark_of t ≡ Plain → is_semicolon t ≡ true
     → step (at (level_of n done before) bs place.Outside d) t
-      ≡ at (level_of n (done ++ segment_of (body_within n) (before, t ∷ []) ∷ []) []) bs place.Outside (either d (depth_of (deep_within n) (before, t ∷ [])))
+    ≡ at (level_of n (done ++ segment_of (body_within n) (before, t ∷ []) ∷ []) []) bs place.Outside (either d (depth_of (deep_within n) (before, t ∷ [])))
 semicolon_step n done before bs d t e s =
     let l = level_of n done before in
     step_plain l bs place.Outside d t e
     ∙ ap (λ b. at (cond b (ended l Semi) (record (stored l t) { is_assigned = l.is_assigned || is_assign t; is_behind_default = is_default t })) bs place.Outside d) s
     ∙ ap (λ b. at (level_of n (done ++ record { head = head_of before; end = cond b Semi (cond (is_class_head (head_of before)) (body_within n t.line []) (Skipped t.line)) } ∷ []) []) bs place.Outside d) (sym s)
     ∙ ap (λ x. at (level_of n (done ++ segment_of (body_within n) (before, t ∷ []) ∷ []) []) bs place.Outside x) (sym (either_none d)
-      ∙ ap (λ b. either d (cond b None (cond (is_class_head (head_of before)) (deep_within n (line_of (head_of before)) []) None))) (sym s))
+    ∙ ap (λ b. either d (cond b None (cond (is_class_head (head_of before)) (deep_within n (line_of (head_of before)) []) None))) (sym s))
 
 other_step : (n : ℕ) (done : List Segment) (before : List Piece) (bs : List Open) (d : Option ℕ) (t : Token) → mark_of t ≡ Plain → is_semicolon t ≡ false
     → step (at (level_of n done before) bs place.Outside d) t ≡ at (level_of n done (before ++ (t ∷ []) ∷ [])) bs place.Outside d
@@ -218,10 +217,10 @@ ends_group p n done before o rest e =
     ∙ ap (λ m. mark_is_braces m && not (is_assigned before || last_begins is_default before)) e
     ∙ by p
   where
-  by : (q : Pair) → (mark_is_braces (Opening q) && not (is_assigned before || last_begins is_default before)) ≡ is_ending q (level_of n done before)
-  by Parentheses = refl
-  by Brackets = refl
-  by Braces = refl
+    by : (q : Pair) → (mark_is_braces (Opening q) && not (is_assigned before || last_begins is_default before)) ≡ is_ending q (level_of n done before)
+    by Parentheses = refl
+    by Brackets = refl
+    by Braces = refl
 
 pub ending_braces : (p : Pair) (l : Level) → is_ending p l ≡ true → p ≡ Braces
 ending_braces Parentheses l e = cc
@@ -239,7 +238,7 @@ closed_level n done before end = level_of n (done ++ record { head = head_of bef
 
 pub segment_is : (n : ℕ) (before : List Piece) (o : Token) (rest : List Token) (b : Bool) → is_semicolon o ≡ false → is_class_head (head_of before) ≡ b
     → segment_of (body_within n) (before, o ∷ rest)
-      ≡ record { head = head_of before; end = cond b (body_within n o.line (without_last rest)) (Skipped o.line) }
+    ≡ record { head = head_of before; end = cond b (body_within n o.line (without_last rest)) (Skipped o.line) }
 segment_is n before o rest b s h =
     let of : SegEnd → Segment = λ x. record { head = head_of before; end = x } in
     ap (λ x. of (cond x Semi (cond (is_class_head (head_of before)) (body_within n o.line (without_last rest)) (Skipped o.line)))) s
@@ -254,17 +253,17 @@ depth_is n before o rest b s h =
 -- the state behind a group that ends a segment
 target : (n : ℕ) (done : List Segment) (before : List Piece) (bs : List Open) (d : Option ℕ) (o : Token) (rest : List Token) (b : Bool) → is_semicolon o ≡ false → is_class_head (head_of before) ≡ b
     → at (closed_level n done before (cond b (body_within n o.line (without_last rest)) (Skipped o.line))) bs place.Outside
-         (either d (cond b (deep_within n (line_of (head_of before)) (without_last rest)) None))
-      ≡ at (level_of n (done ++ segment_of (body_within n) (before, o ∷ rest) ∷ []) []) bs place.Outside (either d (depth_of (deep_within n) (before, o ∷ rest)))
+    (either d (cond b (deep_within n (line_of (head_of before)) (without_last rest)) None))
+    ≡ at (level_of n (done ++ segment_of (body_within n) (before, o ∷ rest) ∷ []) []) bs place.Outside (either d (depth_of (deep_within n) (before, o ∷ rest)))
 target n done before bs d o rest b s h =
     ap (λ x. at (level_of n (done ++ x ∷ []) []) bs place.Outside (either d (cond b (deep_within n (line_of (head_of before)) (without_last rest)) None)))
-      (sym (segment_is n before o rest b s h))
+    (sym (segment_is n before o rest b s h))
     ∙ ap (λ x. at (level_of n (done ++ segment_of (body_within n) (before, o ∷ rest) ∷ []) []) bs place.Outside (either d x)) (sym (depth_is n before o rest b s h))
 
 -- the step at its opening brace
 ending_opened : (l : Level) (bs : List Open) (d : Option ℕ) (o : Token) (b : Bool) → mark_of o ≡ Opening Braces → is_ending Braces l ≡ true → is_class_head l.head ≡ b
     → step (at l bs place.Outside d) o
-      ≡ cond b (cond (l.left == 0) (skipping (noted_deep (at l bs place.Outside d) o) o) (body (at l bs place.Outside d) o)) (skipping (at l bs place.Outside d) o)
+    ≡ cond b (cond (l.left == 0) (skipping (noted_deep (at l bs place.Outside d) o) o) (body (at l bs place.Outside d) o)) (skipping (at l bs place.Outside d) o)
 ending_opened l bs d o b eo h k =
     let s = at l bs place.Outside d in
     step_opening l bs place.Outside d Braces o eo
@@ -275,35 +274,35 @@ skipped_run : (n : ℕ) (done : List Segment) (before : List Piece) (bs : List O
     → (i : Forest) (c : Token) → mark_of c ≡ Closing Braces → (ys : List Token) (s : Cutter)
     → is_ending Braces (level_of n done before) ≡ true → is_class_head (head_of before) ≡ false
     → run (at (level_of n (done ++ segment_of (body_within n) (before, o ∷ (flat i ++ c ∷ [])) ∷ []) []) bs place.Outside
-            (either d (depth_of (deep_within n) (before, o ∷ (flat i ++ c ∷ []))))) ys ≡ s
+    (either d (depth_of (deep_within n) (before, o ∷ (flat i ++ c ∷ []))))) ys ≡ s
     → run (at (level_of n done before) bs place.Outside d) (o ∷ (flat i ++ c ∷ ys)) ≡ s
 skipped_run n done before bs d o eo i c ec ys s h k after =
     let l = level_of n done before in
     run_group _ _ _ _ _ o (flat i) c ys
-      (ending_opened l bs d o false eo h k)
-      (hidden_run i l (bs ++ entry Braces o group.Skipped ∷ []) d)
-      (step_closing l bs place.Hidden d Braces o group.Skipped c ec
-        ∙ ap (λ x. at (closed_level n done before (Skipped o.line)) bs place.Outside x) (sym (either_none d))
-        ∙ target n done before bs d o (flat i ++ c ∷ []) false (opening_no_semicolon o Braces eo) k)
-      after
+    (ending_opened l bs d o false eo h k)
+    (hidden_run i l (bs ++ entry Braces o group.Skipped ∷ []) d)
+    (step_closing l bs place.Hidden d Braces o group.Skipped c ec
+    ∙ ap (λ x. at (closed_level n done before (Skipped o.line)) bs place.Outside x) (sym (either_none d))
+    ∙ target n done before bs d o (flat i ++ c ∷ []) false (opening_no_semicolon o Braces eo) k)
+    after
 
 too_deep_run : (done : List Segment) (before : List Piece) (bs : List Open) (d : Option ℕ) (o : Token) → mark_of o ≡ Opening Braces
     → (i : Forest) (c : Token) → mark_of c ≡ Closing Braces → (ys : List Token) (s : Cutter)
     → is_ending Braces (level_of zero done before) ≡ true → is_class_head (head_of before) ≡ true
     → run (at (level_of zero (done ++ segment_of (body_within zero) (before, o ∷ (flat i ++ c ∷ [])) ∷ []) []) bs place.Outside
-            (either d (depth_of (deep_within zero) (before, o ∷ (flat i ++ c ∷ []))))) ys ≡ s
+    (either d (depth_of (deep_within zero) (before, o ∷ (flat i ++ c ∷ []))))) ys ≡ s
     → run (at (level_of zero done before) bs place.Outside d) (o ∷ (flat i ++ c ∷ ys)) ≡ s
 too_deep_run done before bs d o eo i c ec ys s h k after =
     let l = level_of zero done before in
     let e = or_else d (first_line_or (head_of before) o) in
     run_group _ _ _ _ _ o (flat i) c ys
-      (ending_opened l bs d o true eo h k)
-      (hidden_run i l (bs ++ entry Braces o group.Skipped ∷ []) e)
-      (step_closing l bs place.Hidden e Braces o group.Skipped c ec
-        ∙ ap (λ x. at (closed_level zero done before (Skipped o.line)) bs place.Outside x)
-            (or_else_either d (first_line_or (head_of before) o) ∙ ap (λ x. either d (Some x)) (first_line_class (head_of before) o k))
-        ∙ target zero done before bs d o (flat i ++ c ∷ []) true (opening_no_semicolon o Braces eo) k)
-      after
+    (ending_opened l bs d o true eo h k)
+    (hidden_run i l (bs ++ entry Braces o group.Skipped ∷ []) e)
+    (step_closing l bs place.Hidden e Braces o group.Skipped c ec
+    ∙ ap (λ x. at (closed_level zero done before (Skipped o.line)) bs place.Outside x)
+    (or_else_either d (first_line_or (head_of before) o) ∙ ap (λ x. either d (Some x)) (first_line_class (head_of before) o k))
+    ∙ target zero done before bs d o (flat i ++ c ∷ []) true (opening_no_semicolon o Braces eo) k)
+    after
 
 -- what a level holds at the end of a class body
 pub level_segments : (m : ℕ) (i : Forest)
@@ -324,7 +323,7 @@ body_run : (m : ℕ) (done : List Segment) (before : List Piece) (bs : List Open
     → is_ending Braces (level_of (suc m) done before) ≡ true → is_class_head (head_of before) ≡ true
     → ((inner : List Open) → run (at (level_of m [] []) inner place.Outside d) (flat i) ≡ after m [] [] inner d (pieces_of i))
     → run (at (level_of (suc m) (done ++ segment_of (body_within (suc m)) (before, o ∷ (flat i ++ c ∷ [])) ∷ []) []) bs place.Outside
-            (either d (depth_of (deep_within (suc m)) (before, o ∷ (flat i ++ c ∷ []))))) ys ≡ s
+    (either d (depth_of (deep_within (suc m)) (before, o ∷ (flat i ++ c ∷ []))))) ys ≡ s
     → run (at (level_of (suc m) done before) bs place.Outside d) (o ∷ (flat i ++ c ∷ ys)) ≡ s
 body_run m done before bs d o eo i c ec ys s h k inside behind =
     let l = level_of (suc m) done before in
@@ -333,16 +332,16 @@ body_run m done before bs d o eo i c ec ys s h k inside behind =
     let inner = level_of m (map (segment_of (body_within m)) (between_ends [] (pieces_of i))) (behind_ends [] (pieces_of i)) in
     let deep = first_some (map (depth_of (deep_within m)) (between_ends [] (pieces_of i))) in
     run_group _ _ _ _ _ o (flat i) c ys
-      (ending_opened l bs d o true eo h k
-        ∙ ap (λ b. cond b (skipping (noted_deep st o) o) (body st o)) (eqb-suc-zero m)
-        ∙ ap (λ x. at (fresh x) opened_here place.Outside d) (suc_less m))
-      (inside opened_here)
-      (step_closing inner bs place.Outside (either d deep) Braces o (group.Body l) c ec
-        ∙ ap (λ x. at (closed_level (suc m) done before (Body x)) bs place.Outside (either d deep)) (level_segments m i)
-        ∙ ap (λ x. at (closed_level (suc m) done before (Body (cut_within m (flat i)))) bs place.Outside (either d x)) (level_deep m i)
-        ∙ ap (λ x. at (closed_level (suc m) done before (Body (cut_within m x))) bs place.Outside (either d (deep_beyond m x))) (sym (without_last_end (flat i) c))
-        ∙ target (suc m) done before bs d o (flat i ++ c ∷ []) true (opening_no_semicolon o Braces eo) k)
-      behind
+    (ending_opened l bs d o true eo h k
+    ∙ ap (λ b. cond b (skipping (noted_deep st o) o) (body st o)) (eqb-suc-zero m)
+    ∙ ap (λ x. at (fresh x) opened_here place.Outside d) (suc_less m))
+    (inside opened_here)
+    (step_closing inner bs place.Outside (either d deep) Braces o (group.Body l) c ec
+    ∙ ap (λ x. at (closed_level (suc m) done before (Body x)) bs place.Outside (either d deep)) (level_segments m i)
+    ∙ ap (λ x. at (closed_level (suc m) done before (Body (cut_within m (flat i)))) bs place.Outside (either d x)) (level_deep m i)
+    ∙ ap (λ x. at (closed_level (suc m) done before (Body (cut_within m x))) bs place.Outside (either d (deep_beyond m x))) (sym (without_last_end (flat i) c))
+    ∙ target (suc m) done before bs d o (flat i ++ c ∷ []) true (opening_no_semicolon o Braces eo) k)
+    behind
 
 -- ---- the whole forest
 
@@ -355,9 +354,9 @@ group_level : (p : Pair) (o : Token) (eo : mark_of o ≡ Opening p) (i : Forest)
 group_level p o eo i c ec n done before =
     let piece = o ∷ (flat i ++ c ∷ []) in
     grown_by n done before piece (kept (is_assigned before) (Group p o eo i c ec Nothing)) (is_assigned before) false
-      (ap (λ x. cond (is_assigned before) x piece) (alone_whole (Group p o eo i c ec Nothing)))
-      (ap (λ b. is_assigned before || b) (opening_no_assign o p eo) ∙ or_nothing (is_assigned before))
-      (opening_no_default o p eo)
+    (ap (λ x. cond (is_assigned before) x piece) (alone_whole (Group p o eo i c ec Nothing)))
+    (ap (λ b. is_assigned before || b) (opening_no_assign o p eo) ∙ or_nothing (is_assigned before))
+    (opening_no_default o p eo)
 
 going_run : (f : Forest) (p : Pair) (o : Token) (eo : mark_of o ≡ Opening p) (i : Forest) (c : Token) (ec : mark_of c ≡ Closing p)
     (n : ℕ) (done : List Segment) (before : List Piece) (bs : List Open) (d : Option ℕ)
@@ -366,8 +365,8 @@ going_run : (f : Forest) (p : Pair) (o : Token) (eo : mark_of o ≡ Opening p) (
     → run (at (level_of n done before) bs place.Outside d) (o ∷ (flat i ++ c ∷ flat f)) ≡ after n done before bs d ((o ∷ (flat i ++ c ∷ [])) ∷ pieces_of f)
 going_run f p o eo i c ec n done before bs d h behind =
     outer_run (level_of n done before) bs d p o eo i c ec (flat f) _ h
-      (ap (λ x. run (at x bs place.Outside d) (flat f)) (group_level p o eo i c ec n done before)
-        ∙ behind ∙ after_going n done before bs d (o ∷ (flat i ++ c ∷ [])) (pieces_of f) (ends_group p n done before o (flat i ++ c ∷ []) eo ∙ h))
+    (ap (λ x. run (at x bs place.Outside d) (flat f)) (group_level p o eo i c ec n done before)
+    ∙ behind ∙ after_going n done before bs d (o ∷ (flat i ++ c ∷ [])) (pieces_of f) (ends_group p n done before o (flat i ++ c ∷ []) eo ∙ h))
 
 end_zero : (f : Forest) (p : Pair) (o : Token) (eo : mark_of o ≡ Opening p) (i : Forest) (c : Token) (ec : mark_of c ≡ Closing p)
     (done : List Segment) (before : List Piece) (bs : List Open) (d : Option ℕ)
@@ -377,9 +376,11 @@ end_zero : (f : Forest) (p : Pair) (o : Token) (eo : mark_of o ≡ Opening p) (i
 end_zero f p o eo i c ec done before bs d h behind = by (is_class_head (head_of before)) refl where
   braces : p ≡ Braces
   braces = ending_braces p (level_of zero done before) h
+
   rest : run (at (level_of zero (done ++ segment_of (body_within zero) (before, o ∷ (flat i ++ c ∷ [])) ∷ []) []) bs place.Outside
-          (either d (depth_of (deep_within zero) (before, o ∷ (flat i ++ c ∷ []))))) (flat f) ≡ after zero done before bs d ((o ∷ (flat i ++ c ∷ [])) ∷ pieces_of f)
+      (either d (depth_of (deep_within zero) (before, o ∷ (flat i ++ c ∷ []))))) (flat f) ≡ after zero done before bs d ((o ∷ (flat i ++ c ∷ [])) ∷ pieces_of f)
   rest = behind _ _ ∙ after_end zero done before bs d (o ∷ (flat i ++ c ∷ [])) (pieces_of f) (ends_group p zero done before o (flat i ++ c ∷ []) eo ∙ h)
+
   by : (b : Bool) → is_class_head (head_of before) ≡ b
       → run (at (level_of zero done before) bs place.Outside d) (o ∷ (flat i ++ c ∷ flat f)) ≡ after zero done before bs d ((o ∷ (flat i ++ c ∷ [])) ∷ pieces_of f)
   by false k = skipped_run zero done before bs d o (eo ∙ ap Opening braces) i c (ec ∙ ap Closing braces) (flat f) _
@@ -396,9 +397,11 @@ end_suc : (f : Forest) (p : Pair) (o : Token) (eo : mark_of o ≡ Opening p) (i 
 end_suc f p o eo i c ec m done before bs d h inside behind = by (is_class_head (head_of before)) refl where
   braces : p ≡ Braces
   braces = ending_braces p (level_of (suc m) done before) h
+
   rest : run (at (level_of (suc m) (done ++ segment_of (body_within (suc m)) (before, o ∷ (flat i ++ c ∷ [])) ∷ []) []) bs place.Outside
-          (either d (depth_of (deep_within (suc m)) (before, o ∷ (flat i ++ c ∷ []))))) (flat f) ≡ after (suc m) done before bs d ((o ∷ (flat i ++ c ∷ [])) ∷ pieces_of f)
+      (either d (depth_of (deep_within (suc m)) (before, o ∷ (flat i ++ c ∷ []))))) (flat f) ≡ after (suc m) done before bs d ((o ∷ (flat i ++ c ∷ [])) ∷ pieces_of f)
   rest = behind _ _ ∙ after_end (suc m) done before bs d (o ∷ (flat i ++ c ∷ [])) (pieces_of f) (ends_group p (suc m) done before o (flat i ++ c ∷ []) eo ∙ h)
+
   by : (b : Bool) → is_class_head (head_of before) ≡ b
       → run (at (level_of (suc m) done before) bs place.Outside d) (o ∷ (flat i ++ c ∷ flat f)) ≡ after (suc m) done before bs d ((o ∷ (flat i ++ c ∷ [])) ∷ pieces_of f)
   by false k = skipped_run (suc m) done before bs d o (eo ∙ ap Opening braces) i c (ec ∙ ap Closing braces) (flat f) _
@@ -427,9 +430,9 @@ outside_run (Group p o eo i c ec f) zero done before bs d = by (is_ending p (lev
   by true h behind = end_zero f p o eo i c ec done before bs d h (λ so_far deep. behind so_far [] bs deep)
 outside_run (Group p o eo i c ec f) (suc m) done before bs d =
     by (is_ending p (level_of (suc m) done before)) refl (outside_run f (suc m)) (outside_run i m) where
-  by : (b : Bool) → is_ending p (level_of (suc m) done before) ≡ b
-      → ((so_far : List Segment) (ps : List Piece) (os : List Open) (deep : Option ℕ) → run (at (level_of (suc m) so_far ps) os place.Outside deep) (flat f) ≡ after (suc m) so_far ps os deep (pieces_of f))
-      → ((so_far : List Segment) (ps : List Piece) (os : List Open) (deep : Option ℕ) → run (at (level_of m so_far ps) os place.Outside deep) (flat i) ≡ after m so_far ps os deep (pieces_of i))
-      → run (at (level_of (suc m) done before) bs place.Outside d) (o ∷ (flat i ++ c ∷ flat f)) ≡ after (suc m) done before bs d ((o ∷ (flat i ++ c ∷ [])) ∷ pieces_of f)
-  by false h behind inside = going_run f p o eo i c ec (suc m) done before bs d h (behind done _ bs d)
-  by true h behind inside = end_suc f p o eo i c ec m done before bs d h (λ inner. inside [] [] inner d) (λ so_far deep. behind so_far [] bs deep)
+      by : (b : Bool) → is_ending p (level_of (suc m) done before) ≡ b
+          → ((so_far : List Segment) (ps : List Piece) (os : List Open) (deep : Option ℕ) → run (at (level_of (suc m) so_far ps) os place.Outside deep) (flat f) ≡ after (suc m) so_far ps os deep (pieces_of f))
+          → ((so_far : List Segment) (ps : List Piece) (os : List Open) (deep : Option ℕ) → run (at (level_of m so_far ps) os place.Outside deep) (flat i) ≡ after m so_far ps os deep (pieces_of i))
+          → run (at (level_of (suc m) done before) bs place.Outside d) (o ∷ (flat i ++ c ∷ flat f)) ≡ after (suc m) done before bs d ((o ∷ (flat i ++ c ∷ [])) ∷ pieces_of f)
+      by false h behind inside = going_run f p o eo i c ec (suc m) done before bs d h (behind done _ bs d)
+      by true h behind inside = end_suc f p o eo i c ec m done before bs d h (λ inner. inside [] [] inner d) (λ so_far deep. behind so_far [] bs deep)

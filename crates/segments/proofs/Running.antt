@@ -1,9 +1,8 @@
 -- What a cutter does with a whole forest, in a group.
-use Rattle.std.proofs.Common.{◌≡◌, refl, sym, ◌∙◌, ap, ℕ, Bool, true, false, not, ◌||◌, ◌&&◌, cond, if◌then◌else◌, List, [], ◌∷◌, ◌++◌, append_assoc, append-nil, Option, Some, None}
+use Rattle.std.proofs.Common.{◌≡◌, refl, sym, ◌∙◌, ap, ℕ, true, false, cond, List, [], ◌∷◌, ◌++◌, append_assoc, append-nil, Option, Some, None}
 use Rattle.java_token.specs.declared.token.Token.{Token}
 use Rattle.segments.specs.declared.bracket.Pair.{Pair}
 use Rattle.segments.specs.declared.bracket.Pair.TheVariants.{Parentheses, Brackets, Braces}
-use Rattle.segments.specs.declared.bracket.Mark.{Mark}
 use Rattle.segments.specs.declared.bracket.Mark.TheVariants.{Opening, Closing, Plain}
 use Rattle.segments.specs.declared.level.Level.{Level}
 use Rattle.segments.specs.declared.cutter.Cutter.{Cutter}
@@ -13,9 +12,9 @@ use Rattle.segments.specs.declared.cutter.Place.TheVariants as place
 use Rattle.segments.specs.declared.cutter.Group.TheVariants as group
 use Rattle.segments.specs.declared.cutter.Group.{Group as Kind}
 use Rattle.segments.specs.Brackets.{mark_of, same_pair}
-use Rattle.segments.specs.Stack.{top, below}
+use Rattle.segments.specs.Stack.{below}
 use Rattle.segments.specs.Levels.{stored}
-use Rattle.segments.specs.Steps.{plain, entry, place_in, is_ending, noted, behind_default, opened_in_head, opened, closed_group, closed_by, closed, step, step_by, run}
+use Rattle.segments.specs.Steps.{plain, entry, place_in, opened, closed_group, closed_by, step, step_by, run}
 use Rattle.segments.proofs.Stacks.{top_end, below_end}
 use Rattle.segments.proofs.Forests.{Forest, Nothing, Single, Group, flat}
 use Rattle.segments.proofs.Alone.{alone}
@@ -66,7 +65,7 @@ hidden_run Nothing l bs d = refl
 hidden_run (Single t e f) l bs d = run_single _ _ _ t (flat f) (step_plain l bs place.Hidden d t e) (hidden_run f l bs d)
 hidden_run (Group p o eo i c ec f) l bs d =
     run_group _ _ _ _ _ o (flat i) c (flat f) (step_opening l bs place.Hidden d p o eo) (hidden_run i l (bs ++ entry p o group.Hidden ∷ []) d)
-      (step_closing l bs place.Hidden d p o group.Hidden c ec) (hidden_run f l bs d)
+    (step_closing l bs place.Hidden d p o group.Hidden c ec) (hidden_run f l bs d)
 
 -- ---- where tokens are stored
 
@@ -93,14 +92,14 @@ pub inside_all : (f : Forest) (l : Level) (bs : List Open) (d : Option ℕ) → 
 inside_all Nothing l bs d h = ap (λ x. at x bs place.Inside d) (grown_nothing l)
 inside_all (Single t e f) l bs d h =
     run_single _ _ _ t (flat f) (step_plain l bs place.Inside d t e)
-      (inside_all f (stored l t) bs d h ∙ ap (λ x. at x bs place.Inside d) (grown_grown l (t ∷ []) (flat f)))
+    (inside_all f (stored l t) bs d h ∙ ap (λ x. at x bs place.Inside d) (grown_grown l (t ∷ []) (flat f)))
 inside_all (Group p o eo i c ec f) l bs d h =
     run_group _ _ _ _ _ o (flat i) c (flat f)
-      (step_opening l bs place.Inside d p o eo
-        ∙ ap (λ w. at (stored l o) (bs ++ entry p o group.Inner ∷ []) w d) (ap (place_in p) h ∙ place_in_unassigned p))
-      (inside_all i (stored l o) (bs ++ entry p o group.Inner ∷ []) d h)
-      (step_closing _ bs place.Inside d p o group.Inner c ec)
-      (inside_all f _ bs d h ∙ ap (λ x. at x bs place.Inside d) (grown_group l o (flat i) c (flat f)))
+    (step_opening l bs place.Inside d p o eo
+    ∙ ap (λ w. at (stored l o) (bs ++ entry p o group.Inner ∷ []) w d) (ap (place_in p) h ∙ place_in_unassigned p))
+    (inside_all i (stored l o) (bs ++ entry p o group.Inner ∷ []) d h)
+    (step_closing _ bs place.Inside d p o group.Inner c ec)
+    (inside_all f _ bs d h ∙ ap (λ x. at x bs place.Inside d) (grown_group l o (flat i) c (flat f)))
 
 stored_braces : (l : Level) (o c : Token) (ys : List Token) → grown (stored (stored l o) c) ys ≡ grown l (o ∷ c ∷ ys)
 stored_braces l o c ys = ap (λ h. record l { head = h }) (simp append_assoc)
@@ -110,21 +109,21 @@ pub inside_alone : (f : Forest) (l : Level) (bs : List Open) (d : Option ℕ) �
 inside_alone Nothing l bs d h = ap (λ x. at x bs place.Inside d) (grown_nothing l)
 inside_alone (Single t e f) l bs d h =
     run_single _ _ _ t (flat f) (step_plain l bs place.Inside d t e)
-      (inside_alone f (stored l t) bs d h ∙ ap (λ x. at x bs place.Inside d) (grown_grown l (t ∷ []) (alone f)))
+    (inside_alone f (stored l t) bs d h ∙ ap (λ x. at x bs place.Inside d) (grown_grown l (t ∷ []) (alone f)))
 inside_alone (Group Braces o eo i c ec f) l bs d h =
     run_group _ _ _ _ _ o (flat i) c (flat f)
-      (step_opening l bs place.Inside d Braces o eo
-        ∙ ap (λ a. at (stored l o) (bs ++ entry Braces o group.Inner ∷ []) (place_in Braces a) d) h)
-      (hidden_run i (stored l o) (bs ++ entry Braces o group.Inner ∷ []) d)
-      (step_closing _ bs place.Hidden d Braces o group.Inner c ec)
-      (inside_alone f _ bs d h ∙ ap (λ x. at x bs place.Inside d) (stored_braces l o c (alone f)))
+    (step_opening l bs place.Inside d Braces o eo
+    ∙ ap (λ a. at (stored l o) (bs ++ entry Braces o group.Inner ∷ []) (place_in Braces a) d) h)
+    (hidden_run i (stored l o) (bs ++ entry Braces o group.Inner ∷ []) d)
+    (step_closing _ bs place.Hidden d Braces o group.Inner c ec)
+    (inside_alone f _ bs d h ∙ ap (λ x. at x bs place.Inside d) (stored_braces l o c (alone f)))
 inside_alone (Group Parentheses o eo i c ec f) l bs d h =
     run_group _ _ _ _ _ o (flat i) c (flat f) (step_opening l bs place.Inside d Parentheses o eo)
-      (inside_alone i (stored l o) (bs ++ entry Parentheses o group.Inner ∷ []) d h)
-      (step_closing _ bs place.Inside d Parentheses o group.Inner c ec)
-      (inside_alone f _ bs d h ∙ ap (λ x. at x bs place.Inside d) (grown_group l o (alone i) c (alone f)))
+    (inside_alone i (stored l o) (bs ++ entry Parentheses o group.Inner ∷ []) d h)
+    (step_closing _ bs place.Inside d Parentheses o group.Inner c ec)
+    (inside_alone f _ bs d h ∙ ap (λ x. at x bs place.Inside d) (grown_group l o (alone i) c (alone f)))
 inside_alone (Group Brackets o eo i c ec f) l bs d h =
     run_group _ _ _ _ _ o (flat i) c (flat f) (step_opening l bs place.Inside d Brackets o eo)
-      (inside_alone i (stored l o) (bs ++ entry Brackets o group.Inner ∷ []) d h)
-      (step_closing _ bs place.Inside d Brackets o group.Inner c ec)
-      (inside_alone f _ bs d h ∙ ap (λ x. at x bs place.Inside d) (grown_group l o (alone i) c (alone f)))
+    (inside_alone i (stored l o) (bs ++ entry Brackets o group.Inner ∷ []) d h)
+    (step_closing _ bs place.Inside d Brackets o group.Inner c ec)
+    (inside_alone f _ bs d h ∙ ap (λ x. at x bs place.Inside d) (grown_group l o (alone i) c (alone f)))

@@ -4,7 +4,7 @@ use Rattle.std.proofs.lemmas.List.{drop_all}
 use Rattle.java_token.specs.declared.token.Token.{Token}
 use Rattle.segments.specs.declared.bracket.Pair.{Pair}
 use Rattle.segments.specs.declared.bracket.Pair.TheVariants.{Parentheses, Brackets, Braces}
-use Rattle.segments.specs.declared.bracket.Mark.TheVariants.{Opening, Closing, Plain}
+use Rattle.segments.specs.declared.bracket.Mark.TheVariants.{Opening, Closing}
 use Rattle.segments.specs.declared.segment.Segment.{Segment}
 use Rattle.segments.specs.declared.error.SegErr.{SegErr}
 use Rattle.segments.specs.declared.error.SegErr.TheVariants.{Unbalanced, TooDeep, Memory}
@@ -18,10 +18,10 @@ use Rattle.segments.specs.Levels.{fresh, segments_of}
 use Rattle.segments.specs.Steps.{start, run}
 use Rattle.segments.specs.Finish.{finished_by, finished, Gives}
 use Rattle.segments.specs.Answer.{cut, Answers}
-use Rattle.segments.proofs.Forests.{Forest, Nothing, Single, Group, flat, spelt, left_out, Spread, spread}
+use Rattle.segments.proofs.Forests.{Forest, Nothing, Single, Group, flat, spelt, left_out, spread}
 use Rattle.segments.proofs.Pieces.{pieces_of}
 use Rattle.segments.proofs.Running.{at}
-use Rattle.segments.proofs.Outside.{either, level_of, body_within, deep_within, after, outside_run, level_segments, level_deep}
+use Rattle.segments.proofs.Outside.{either, level_of, body_within, deep_within, outside_run, level_segments, level_deep}
 use Rattle.segments.proofs.Wrong.{marks, verdict, wrong_among, wrong_run}
 use Rattle.segments.proofs.Depth.{cut_whole}
 
@@ -104,9 +104,9 @@ finished_paired n f =
     ∙ ap (λ x. answer_by None x (segments_of (level_of n (map (segment_of (body_within n)) (between_ends [] (pieces_of f))) (behind_ends [] (pieces_of f))))) (level_deep n f)
     ∙ ap (λ x. answer_by None (deep_beyond n (flat f)) x) (level_segments n f)
   where
-  by : (d : Option ℕ) (l : Level) → finished_by None [] d l ≡ answer_by None d (segments_of l)
-  by (Some line) l = refl
-  by None l = refl
+    by : (d : Option ℕ) (l : Level) → finished_by None [] d l ≡ answer_by None d (segments_of l)
+    by (Some line) l = refl
+    by None l = refl
 
 -- what a cutter answers is what the definitions say
 pub whole : (n : ℕ) (tokens : List Token) → finished (run (start n) tokens) ≡ answer_by (wrong_line tokens) (deep_beyond n tokens) (cut_within n tokens)
@@ -114,6 +114,7 @@ unfolding start wrong_line
 whole n tokens = by (wrong_line tokens) refl where
   v : verdict (run (at (fresh n) [] place.Outside None) tokens) ≡ wrong_line tokens
   v = wrong_run tokens (fresh n) [] place.Outside None
+
   by : (w : Option ℕ) → wrong_line tokens ≡ w → finished (run (start n) tokens) ≡ answer_by (wrong_line tokens) (deep_beyond n tokens) (cut_within n tokens)
   by (Some line) e =
       let c = run (at (fresh n) [] place.Outside None) tokens in
@@ -163,11 +164,11 @@ pub answers : (n : ℕ) (tokens : List Token) (r : Result (List Segment) SegErr)
 answers n tokens r g =
     by r (fits (wrong_line tokens) (deep_beyond n tokens) (cut_within n tokens) (cut tokens) (whole_cut n tokens) r (subst (λ x. Gives r x) (whole n tokens) g))
   where
-  by : (r : Result (List Segment) SegErr) → Fits (wrong_line tokens) (deep_beyond n tokens) (cut tokens) r → Answers n tokens r
-  by (Ok segments) h = (balanced tokens h.0, h.1, h.2)
-  by (Err (Unbalanced line)) h = (unbalanced tokens line h, h)
-  by (Err (TooDeep line)) h = (balanced tokens h.0, h.1)
-  by (Err Memory) h = h
+    by : (r : Result (List Segment) SegErr) → Fits (wrong_line tokens) (deep_beyond n tokens) (cut tokens) r → Answers n tokens r
+    by (Ok segments) h = (balanced tokens h.0, h.1, h.2)
+    by (Err (Unbalanced line)) h = (unbalanced tokens line h, h)
+    by (Err (TooDeep line)) h = (balanced tokens h.0, h.1)
+    by (Err Memory) h = h
 
 -- the end of the tokens
 pub all_run : (c s : Cutter) (tokens : List Token) (i : ℕ) → length tokens ≤ i → run c (drop i tokens) ≡ s → c ≡ s

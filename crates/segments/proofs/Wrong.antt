@@ -1,8 +1,8 @@
 -- Brackets that don't pair.
-use Rattle.std.proofs.Common.{◌≡◌, refl, sym, ◌∙◌, ap, ℕ, Bool, true, false, not, ◌==◌, cond, if◌then◌else◌, List, [], ◌∷◌, ◌++◌, append_assoc, append-nil, map, Option, Some, None, ◌⊎◌, inl, inr}
+use Rattle.std.proofs.Common.{◌≡◌, refl, sym, ◌∙◌, ap, ℕ, Bool, true, false, ◌==◌, cond, List, [], ◌∷◌, ◌++◌, append-nil, map, Option, Some, ◌⊎◌, inl, inr}
 use Rattle.java_token.specs.declared.token.Token.{Token}
 use Rattle.segments.specs.declared.bracket.Pair.{Pair}
-use Rattle.segments.specs.declared.bracket.Pair.TheVariants.{Parentheses, Brackets, Braces}
+use Rattle.segments.specs.declared.bracket.Pair.TheVariants.{Braces}
 use Rattle.segments.specs.declared.bracket.Mark.{Mark}
 use Rattle.segments.specs.declared.bracket.Mark.TheVariants.{Opening, Closing, Plain}
 use Rattle.segments.specs.declared.level.Level.{Level}
@@ -12,11 +12,11 @@ use Rattle.segments.specs.declared.cutter.Place.{Place}
 use Rattle.segments.specs.declared.cutter.Place.TheVariants as place
 use Rattle.segments.specs.declared.cutter.Group.TheVariants as group
 use Rattle.segments.specs.declared.cutter.Group.{Group as Kind}
-use Rattle.segments.specs.Brackets.{mark_of, same_pair, is_closing, Bracket, bracket_of, is_closed_by, in_front, unpaired, first_line, first_wrong}
+use Rattle.segments.specs.Brackets.{mark_of, same_pair, Bracket, bracket_of, in_front, unpaired, first_line, first_wrong}
 use Rattle.segments.specs.Cut.{is_class_head}
 use Rattle.segments.specs.Stack.{top, below}
-use Rattle.segments.specs.Levels.{fresh, stored, ended, segments_of}
-use Rattle.segments.specs.Steps.{plain, plain_at, entry, place_in, is_ending, or_else, first_line_or, noted_deep, skipping, body, ending, behind_default, opened_in_head, opened, closed_group, closed_by, closed, unless, step, step_by, run}
+use Rattle.segments.specs.Levels.{stored}
+use Rattle.segments.specs.Steps.{plain_at, entry, place_in, is_ending, or_else, first_line_or, noted_deep, skipping, body, ending, behind_default, opened_in_head, opened, closed_group, closed_by, unless, step, step_by, run}
 use Rattle.segments.proofs.Stacks.{top_end, below_end}
 use Rattle.segments.proofs.Running.{at, step_plain, step_opening}
 use Rattle.segments.proofs.Outside.{either, ending_braces}
@@ -66,23 +66,33 @@ note_ending : (l : Level) (bs : List Open) (d : Option ℕ) (p : Pair) (t : Toke
 note_ending l bs d p t braces = by (is_class_head l.head) refl (l.left == 0) refl where
   st : Cutter
   st = at l bs place.Outside d
+
   by : (b : Bool) → is_class_head l.head ≡ b → (z : Bool) → (l.left == 0) ≡ z → Noted (ending st t) bs p t
   by false e z f = record {
-    level = l; where_ = place.Hidden; deep = d; kind = group.Skipped;
+    level = l;
+    where_ = place.Hidden;
+    deep = d;
+    kind = group.Skipped;
     is = ap (λ x. cond x (cond (l.left == 0) (skipping (noted_deep st t) t) (body st t)) (skipping st t)) e
-         ∙ ap (λ q. at l (bs ++ entry q t group.Skipped ∷ []) place.Hidden d) (sym braces)
+        ∙ ap (λ q. at l (bs ++ entry q t group.Skipped ∷ []) place.Hidden d) (sym braces);
   }
   by true e true f = record {
-    level = l; where_ = place.Hidden; deep = or_else d (first_line_or l.head t); kind = group.Skipped;
+    level = l;
+    where_ = place.Hidden;
+    deep = or_else d (first_line_or l.head t);
+    kind = group.Skipped;
     is = ap (λ x. cond x (cond (l.left == 0) (skipping (noted_deep st t) t) (body st t)) (skipping st t)) e
-         ∙ ap (λ x. cond x (skipping (noted_deep st t) t) (body st t)) f
-         ∙ ap (λ q. at l (bs ++ entry q t group.Skipped ∷ []) place.Hidden (or_else d (first_line_or l.head t))) (sym braces)
+        ∙ ap (λ x. cond x (skipping (noted_deep st t) t) (body st t)) f
+        ∙ ap (λ q. at l (bs ++ entry q t group.Skipped ∷ []) place.Hidden (or_else d (first_line_or l.head t))) (sym braces);
   }
   by true e false f = record {
-    level = (body st t).level; where_ = place.Outside; deep = d; kind = group.Body l;
+    level = (body st t).level;
+    where_ = place.Outside;
+    deep = d;
+    kind = group.Body l;
     is = ap (λ x. cond x (cond (l.left == 0) (skipping (noted_deep st t) t) (body st t)) (skipping st t)) e
-         ∙ ap (λ x. cond x (skipping (noted_deep st t) t) (body st t)) f
-         ∙ ap (λ q. at (body st t).level (bs ++ entry q t (group.Body l) ∷ []) place.Outside d) (sym braces)
+        ∙ ap (λ x. cond x (skipping (noted_deep st t) t) (body st t)) f
+        ∙ ap (λ q. at (body st t).level (bs ++ entry q t (group.Body l) ∷ []) place.Outside d) (sym braces);
   }
 
 note_opened : (l : Level) (bs : List Open) (w : Place) (d : Option ℕ) (p : Pair) (t : Token) → Noted (opened (at l bs w d) p t) bs p t
@@ -91,14 +101,21 @@ note_opened l bs place.Hidden d p t = record { level = l; where_ = place.Hidden;
 note_opened l bs place.Outside d p t = by (is_ending p l) refl where
   st : Cutter
   st = at l bs place.Outside d
+
   by : (b : Bool) → is_ending p l ≡ b → Noted (opened st p t) bs p t
   by false h = record {
-    level = (opened_in_head (behind_default st) p t group.Outer).level; where_ = place_in p l.is_assigned; deep = d; kind = group.Outer;
-    is = ap (λ x. cond x (ending st t) (opened_in_head (behind_default st) p t group.Outer)) h
+    level = (opened_in_head (behind_default st) p t group.Outer).level;
+    where_ = place_in p l.is_assigned;
+    deep = d;
+    kind = group.Outer;
+    is = ap (λ x. cond x (ending st t) (opened_in_head (behind_default st) p t group.Outer)) h;
   }
   by true h = let n = note_ending l bs d p t (ending_braces p l h) in record {
-    level = n.level; where_ = n.where_; deep = n.deep; kind = n.kind;
-    is = ap (λ x. cond x (ending st t) (opened_in_head (behind_default st) p t group.Outer)) h ∙ n.is
+    level = n.level;
+    where_ = n.where_;
+    deep = n.deep;
+    kind = n.kind;
+    is = ap (λ x. cond x (ending st t) (opened_in_head (behind_default st) p t group.Outer)) h ∙ n.is;
   }
 
 record Left (c : Cutter) (bs : List Open) : Type 0 where
@@ -151,13 +168,13 @@ closes_last : (front : List Open) (o : Open) (p : Pair) (line : ℕ) (rest : Lis
     → unpaired (marks front ++ bracket o.pair o.line ∷ record { mark = Closing p; line = line } ∷ rest) ≡ unpaired (marks front ++ rest)
 closes_last front o p line rest e =
     same_behind (marks front) (bracket o.pair o.line ∷ record { mark = Closing p; line = line } ∷ rest) rest
-      (ap (λ b. cond b (unpaired rest) (bracket o.pair o.line ∷ record { mark = Closing p; line = line } ∷ unpaired rest)) e)
+    (ap (λ b. cond b (unpaired rest) (bracket o.pair o.line ∷ record { mark = Closing p; line = line } ∷ unpaired rest)) e)
 
 wrong_last : (front : List Open) (o : Open) (p : Pair) (line : ℕ) (rest : List Bracket) → same_pair o.pair p ≡ false
     → wrong_among (unpaired (marks front ++ bracket o.pair o.line ∷ record { mark = Closing p; line = line } ∷ rest)) ≡ Some line
 wrong_last front o p line rest e =
     let inner : unpaired (bracket o.pair o.line ∷ record { mark = Closing p; line = line } ∷ rest) ≡ bracket o.pair o.line ∷ record { mark = Closing p; line = line } ∷ unpaired rest =
-      ap (λ b. cond b (unpaired rest) (bracket o.pair o.line ∷ record { mark = Closing p; line = line } ∷ unpaired rest)) e in
+    ap (λ b. cond b (unpaired rest) (bracket o.pair o.line ∷ record { mark = Closing p; line = line } ∷ unpaired rest)) e in
     let all = stay_behind front o.pair o.line (bracket o.pair o.line ∷ record { mark = Closing p; line = line } ∷ rest) (record { mark = Closing p; line = line } ∷ unpaired rest) inner in
     ap wrong_among all ∙ no_closing front (bracket o.pair o.line ∷ record { mark = Closing p; line = line } ∷ unpaired rest) _
 
@@ -187,10 +204,12 @@ module _ (t : Token) (ts : List Token) (l : Level) (bs : List Open) (w : Place) 
     taken = step_closed l bs w d p t e ∙ ap (λ x. closed_by (top x) (at l (below x) w d) p t) last.is
         ∙ ap (λ x. closed_by x (at l (below (last.front ++ last.end ∷ [])) w d) p t) (top_end last.front last.end)
         ∙ ap (λ x. closed_by (Some last.end) (at l x w d) p t) (below_end last.front last.end)
+
     shown : wrong_among (unpaired (marks last.front ++ bracket last.end.pair last.end.line ∷ record { mark = Closing p; line = t.line } ∷ map bracket_of ts))
         ≡ wrong_among (unpaired (marks bs ++ bracket_of t ∷ map bracket_of ts))
     shown = ap (λ x. wrong_among (unpaired x)) (sym (marks_end last.front last.end (record { mark = Closing p; line = t.line } ∷ map bracket_of ts)))
         ∙ ap (λ x. wrong_among (unpaired (marks x ++ record { mark = Closing p; line = t.line } ∷ map bracket_of ts))) (sym last.is) ∙ marked (Closing p) e
+
     by : (b : Bool) → same_pair last.end.pair p ≡ b → verdict (run (step (at l bs w d) t) ts) ≡ wrong_among (unpaired (marks bs ++ bracket_of t ∷ map bracket_of ts))
     by true s =
         let n = left_closed last.end.group last.end.line l last.front w d t in

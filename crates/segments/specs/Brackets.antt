@@ -38,8 +38,8 @@ pub data IsBalanced : List Token → Type 0 where
   no_token : IsBalanced []
   single : (t : Token) (behind : List Token) → mark_of t ≡ Plain → IsBalanced behind → IsBalanced (t ∷ behind)
   in_group : (pair : Pair) (opening : Token) (inside : List Token) (closing : Token) (behind : List Token)
-    → mark_of opening ≡ Opening pair → IsBalanced inside → mark_of closing ≡ Closing pair → IsBalanced behind
-    → IsBalanced (opening ∷ (inside ++ closing ∷ behind))
+      → mark_of opening ≡ Opening pair → IsBalanced inside → mark_of closing ≡ Closing pair → IsBalanced behind
+      → IsBalanced (opening ∷ (inside ++ closing ∷ behind))
 
 -- ---- what stands outside all brackets
 

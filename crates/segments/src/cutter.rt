@@ -3,8 +3,8 @@ ghost use Rattle.segments.specs.Finish.{finished, Gives};
 ghost use Rattle.segments.specs.Steps.{start, step, plain, noted, noted_deep, skipping, ending, is_ending, opened_in_head, opened, closed, closed_group};
 
 use crate::bracket::{Mark, Pair};
-use crate::error::SegErr;
 use crate::class_head::is_class_head;
+use crate::error::SegErr;
 use crate::level::Level;
 use crate::list::{pop, push};
 use crate::segment::{SegEnd, Segment};
@@ -168,7 +168,13 @@ impl Cutter {
         )
     }
 
-    fn open_in_head(&mut self, alloc: Global, pair: Pair, token: &Token, group: Group) -> Result<(), Memory>
+    fn open_in_head(
+        &mut self,
+        alloc: Global,
+        pair: Pair,
+        token: &Token,
+        group: Group,
+    ) -> Result<(), Memory>
         ensures { OnOk result (self.new ≡ opened_in_head self.old pair token.now group) }
     {
         self.level.store(alloc, token)?;

@@ -14,3 +14,6 @@ mod words;
 pub use cut::segments;
 pub use error::SegErr;
 pub use segment::{SegEnd, Segment};
+
+#[cfg(test)]
+mod tests;

@@ -18,9 +18,7 @@ pub enum SegEnd {
     /// A class body, cut too.
     Body(List<Segment>),
     /// Any other group in braces, and the line of its opening brace.
-    Skipped {
-        line: u32,
-    },
+    Skipped { line: u32 },
     /// The list ends.
     Tail,
 }

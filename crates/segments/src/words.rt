@@ -51,7 +51,9 @@ fn names_class(kind: &TokenKind) -> bool
 {
     matches!(
         kind,
-        TokenKind::Keyword(Kw::Class) | TokenKind::Keyword(Kw::Interface) | TokenKind::Keyword(Kw::Enum)
+        TokenKind::Keyword(Kw::Class)
+            | TokenKind::Keyword(Kw::Interface)
+            | TokenKind::Keyword(Kw::Enum)
     )
 }
 

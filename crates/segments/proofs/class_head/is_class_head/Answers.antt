@@ -1,4 +1,4 @@
-use Rattle.std.proofs.Common.{◌≡◌, ◌∙◌, arith}
+use Rattle.std.proofs.Common.{◌∙◌}
 use Rattle.java_token.specs.declared.token.Token.{Token}
 use Rattle.segments.specs.Brackets.{mark_of, is_opening, is_closing}
 use Rattle.segments.specs.Cut.{is_class_head}
@@ -17,13 +17,13 @@ loop-at-preserved c =
     let opening = λ (t : Token). is_opening (mark_of t) in
     let closing = λ (t : Token). is_closing (mark_of t) in
     let marked = c.of-mark.ensures in record {
-  opened = c.counted-opened.ensures ∙ rw (c.is_opening.ensures, marked) (counted_place opening _ _ _ _ c.loop-at-test.true c.index-head-at.is h.opened);
-  opened_few = rw c.counted-opened.ensures (counted_few _ _ _ h.opened_few);
-  closed = c.counted-closed.ensures ∙ rw (c.is_closing.ensures, marked) (counted_place closing _ _ _ _ c.loop-at-test.true c.index-head-at.is h.closed);
-  closed_few = rw c.counted-closed.ensures (counted_few _ _ _ h.closed_few);
-  dot = c.is_dot-is_behind_dot.ensures ∙ dot_place _ _ _ c.loop-at-test.true c.index-head-at.is;
-  none = not_found _ _ _ _ _ _ _ c.loop-at-test.true c.index-head-at.is h.opened h.closed h.dot h.none c.declares_class.ensures c.if-declares_class.false
-}
+      opened = c.counted-opened.ensures ∙ rw (c.is_opening.ensures, marked) (counted_place opening _ _ _ _ c.loop-at-test.true c.index-head-at.is h.opened);
+      opened_few = rw c.counted-opened.ensures (counted_few _ _ _ h.opened_few);
+      closed = c.counted-closed.ensures ∙ rw (c.is_closing.ensures, marked) (counted_place closing _ _ _ _ c.loop-at-test.true c.index-head-at.is h.closed);
+      closed_few = rw c.counted-closed.ensures (counted_few _ _ _ h.closed_few);
+      dot = c.is_dot-is_behind_dot.ensures ∙ dot_place _ _ _ c.loop-at-test.true c.index-head-at.is;
+      none = not_found _ _ _ _ _ _ _ c.loop-at-test.true c.index-head-at.is h.opened h.closed h.dot h.none c.declares_class.ensures c.if-declares_class.false;
+    }
 
 pub returns : goal.returns
 unfolding is_class_head

@@ -1,4 +1,3 @@
-use Rattle.std.proofs.Common.{◌≡◌}
 use Rattle.segments.proofs.Stacks.{popped_top, popped_below}
 use Rattle.segments.proofs.list.pop.Goals as goal
 
