@@ -1,0 +1,4 @@
+pub mod Outcome
+pub mod Phases
+pub mod Statuses
+pub mod Stops
