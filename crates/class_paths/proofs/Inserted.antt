@@ -135,3 +135,8 @@ module _ (held : List File) (root : Path) (listed : List Path) (l : IsListing he
   -- whatever the order of the listing
   pub listing_used : in_order (filter (is_class_path root) listed) ≡ used held root
   listing_used = rises_same _ _ (rises_each [] (filter (is_class_path root) listed) tt) (rises_each [] (filter is_used (map (λ file. file.0) held)) tt) (to, from)
+
+-- what went in was listed
+pub was_listed : (p : Path → Bool) (listed keys : List Path) (x : Path) → keys ≡ in_order (filter p listed) → Contains keys x → Contains listed x
+was_listed p listed keys x e h =
+    ⊎_elim (λ no_one. absurd no_one) (λ g. contains_among x listed (among_filter p x listed g).0) (among_each x [] (filter p listed) (subst (Among x) e (among_contains x keys h)))

@@ -1,4 +1,4 @@
-ghost use Rattle.std.specs.Prelude.{◌≡◌, ◌==◌, ◌<◌, IfOk, OnOk, IfSome, List, length, map, filter, position, string_bytes, bytes_eq, codes};
+ghost use Rattle.std.specs.Prelude.{◌≡◌, ◌==◌, ◌<◌, IfOk, OnOk, IfSome, ℕ, List, Contains, length, map, filter, position, string_bytes, bytes_eq, codes};
 ghost use Rattle.std.specs.List.{list_any};
 ghost use Rattle.class_paths.specs.Paths.{first_folder as first_folder_of, parts_of, front_of, folders_below, is_class_path as is_class_path_of, insert_each, File, used};
 ghost use Rattle.class_paths.specs.Seen.{parts_seen};
@@ -70,7 +70,8 @@ fn insert_used(root: &str, listed: &[String], used: &mut BTreeSet<String>) -> Re
 
 /// The paths that are used of those that were listed under a root, ordered by their bytes, each once.
 pub fn used_paths(alloc: Global, root: &str, listed: &[String]) -> Result<BTreeSet<String>, Memory>
-    ensures { IfOk result (λ paths. (held : List File) → IsListing held root.now (map string_bytes listed.now) → map string_bytes paths.keys ≡ used held root.now) }
+    ensures used { IfOk result (λ paths. (held : List File) → IsListing held root.now (map string_bytes listed.now) → map string_bytes paths.keys ≡ used held root.now) }
+    ensures listed { IfOk result (λ paths. (path : List ℕ) → Contains (map string_bytes paths.keys) path → Contains (map string_bytes listed.now) path) }
 {
     let mut paths = BTreeSet::new(alloc);
     insert_used(root, listed, &mut paths)?;

@@ -87,8 +87,16 @@ unless_archive (Some word) job = Archive word
 abbrev pub job : List (List ℕ) → Job
 job words = unless_archive (find is_archive words) (command words)
 
--- the words are no job, and this is the line that says so
+-- what is told where a word names an archive
+abbrev pub archive_line : List ℕ → List ℕ
+archive_line word = codes "archives are not read: " ++ (word ++ codes "\n")
+
+-- what is told where the words are no other job
+abbrev pub help_line : List ℕ
+help_line = codes "usage: jheader turbine|ijar|ask options\n"
+
+-- the line that is told where the words are no job
 abbrev pub usage_line : Job → Option (List ℕ)
-usage_line (Archive word) = Some (codes "archives are not read: " ++ (word ++ codes "\n"))
-usage_line NoJob = Some (codes "usage: jheader turbine|ijar|ask options\n")
+usage_line (Archive word) = Some (archive_line word)
+usage_line NoJob = Some help_line
 usage_line (Ijar input output) = None

@@ -1,0 +1,4 @@
+pub mod Options
+pub mod Sole
+pub mod Spelled
+pub mod Told

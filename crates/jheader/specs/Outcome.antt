@@ -9,7 +9,7 @@ use Rattle.class_desc.specs.Layout.{layout}
 use Rattle.class_desc.specs.Strip.{strip_class}
 use Rattle.class_reader.specs.declared.fault.ClassFault.{ClassFault}
 use Rattle.class_reader.specs.Reading.{class_of}
-use Rattle.command_words.specs.Words.{Job, Archive, NoJob, Ijar, usage_line}
+use Rattle.command_words.specs.Words.{Job, Archive, NoJob, Ijar, archive_line, help_line}
 use Rattle.jheader.specs.declared.status.Status.{Status}
 use Rattle.jheader.specs.declared.status.Status.TheVariants.{Done, Diagnosed, Usage}
 use Rattle.class_paths.specs.Paths.{File, tree}
@@ -59,6 +59,6 @@ abbrev pub usage_of : List ℕ → Outcome
 usage_of line = record { files = []; out = []; err = line; status = Usage }
 
 abbrev pub outcome : Job → List File → Outcome
-outcome (Archive word) held = usage_of (codes "archives are not read: " ++ (word ++ codes "\n"))
-outcome NoJob held = usage_of (codes "usage: jheader turbine|ijar|ask options\n")
+outcome (Archive word) held = usage_of (archive_line word)
+outcome NoJob held = usage_of help_line
 outcome (Ijar input output) held = outcome_over input output (tree held input)

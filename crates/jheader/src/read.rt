@@ -1,5 +1,5 @@
 //! The way from the outside to the one class file of a job.
-ghost use Rattle.std.specs.Prelude.{◌≡◌, ◌≤◌, ◌<◌, ◌^◌, [], ◌∷◌, IfOk, IfErr, IfSome, IsSome, List, length, map, string_bytes, Some};
+ghost use Rattle.std.specs.Prelude.{◌≡◌, ◌≤◌, ◌<◌, ◌^◌, [], ◌∷◌, IfOk, IfErr, IfSome, IsSome, Contains, List, length, map, string_bytes, Some};
 ghost use Rattle.hdr_core.specs.Held.{held_at, IsListing};
 ghost use Rattle.class_paths.specs.Paths.{File, tree, used};
 ghost use Rattle.jheader.specs.Phases.{diag_at, is_sole, reading};
@@ -32,7 +32,8 @@ pub fn diagnose(
 
 /// The one class file that is used below the root, if there is just one. Modules are not read yet.
 fn sole_path(alloc: Global, root: &str, listed: &[String]) -> Result<Option<String>, Memory>
-    ensures { IfOk result (λ path. (held : List File) → IsListing held root.now (map string_bytes listed.now) → IsSolePath (used held root.now) path) }
+    ensures sole { IfOk result (λ path. (held : List File) → IsListing held root.now (map string_bytes listed.now) → IsSolePath (used held root.now) path) }
+    ensures listed { IfOk result (λ path. IfSome path (λ p. Contains (map string_bytes listed.now) (string_bytes p))) }
 {
     let mut paths = used_paths(alloc, root, listed)?;
     let Some(path) = paths.pop_first() else {

@@ -1,0 +1,92 @@
+//! The command `ijar`: class files to stripped class files.
+ghost use Rattle.std.specs.Prelude.{◌≡◌, ◌⊎◌, ◌≤◌, ◌^◌, ◌++◌, [], ◌∷◌, true, IfOk, IfErr, length, string_bytes, codes, Ok};
+ghost use Rattle.class_desc.specs.ClassFile.{is_plain};
+ghost use Rattle.class_desc.specs.Layout.{HasNoAttributes};
+ghost use Rattle.class_desc.specs.Strip.{strip_class};
+ghost use Rattle.class_reader.specs.Reading.{class_of};
+ghost use Rattle.jheader.specs.Outcome.{written};
+ghost use Rattle.jheader.specs.Phases.{later_phases, limit_code as limit_code_of};
+ghost use Rattle.jheader.specs.Stops.{IsFilled, StopsOnly, held_file};
+
+use crate::read::diagnose;
+use crate::stop::Stop;
+use crate::strip::strip;
+use class_desc::ClassDesc;
+use class_reader::{ReadErr, read_class};
+use class_writer::{PoolErr, write_class};
+use hdr_core::{Code, HeldFile, Memory};
+use std::alloc::Global;
+
+/// The path of a class below the output folder. For now names are ASCII.
+fn class_path(alloc: Global, output: &str, name: &[u8]) -> Result<String, Memory>
+    requires { is_plain name.now ≡ true }
+    ensures { IfOk result (λ path. string_bytes path ≡ output.now ++ (codes "/" ++ (name.now ++ codes ".class"))) }
+{
+    let Ok(name) = str::from_utf8(name) else {
+        unreachable!()
+    };
+    let mut path = String::from_str(alloc, output)?;
+    path.push_str("/")?;
+    path.push_str(name)?;
+    path.push_str(".class")?;
+    Ok(path)
+}
+
+/// The class of a file, with what its spelling tells of it.
+fn spelled_class(alloc: Global, file: &HeldFile) -> Result<ClassDesc, Stop>
+    requires { length file.now.bytes.items ≤ 2 ^ 24 }
+    ensures class { IfOk result (λ d. class_of file.now.bytes.items ≡ Ok d) }
+    ensures bare { IfOk result (λ d. HasNoAttributes (strip_class d)) }
+    ensures plain { IfOk result (λ d. is_plain d.name ≡ true) }
+    ensures stops { IfErr result (λ stop. StopsOnly stop (λ _. ⊥) (λ list. IsFilled list × (later_phases (held_file file.now ∷ []) ≡ list))) }
+{
+    match read_class(alloc, &file.bytes) {
+        Ok(desc) => Ok(desc),
+        Err(ReadErr::Fault(_)) => Err(Stop::Diagnosed(diagnose(
+            alloc,
+            file.path.as_str(),
+            Code::F0,
+            b"",
+        )?)),
+        Err(ReadErr::Memory) => Err(Stop::Memory),
+    }
+}
+
+/// The code of a refusal. Want of memory has none.
+fn limit_code(refused: PoolErr) -> Option<Code>
+    ensures { result ≡ limit_code_of refused }
+{
+    match refused {
+        PoolErr::TextTooLong { length: _ } => Some(Code::L5),
+        PoolErr::TooMany { count: _ } => Some(Code::L9),
+        PoolErr::PoolFull { needed: _ } => Some(Code::L4),
+        PoolErr::Memory => None,
+    }
+}
+
+/// The file that is written for a class file.
+pub fn strip_file(alloc: Global, output: &str, file: &HeldFile) -> Result<HeldFile, Stop>
+    requires { length file.now.bytes.items ≤ 2 ^ 24 }
+    ensures written { IfOk result (λ stripped. written output.now (held_file file.now ∷ []) ≡ held_file stripped ∷ []) }
+    ensures fine { IfOk result (λ _. later_phases (held_file file.now ∷ []) ≡ []) }
+    ensures stops { IfErr result (λ stop. StopsOnly stop (λ _. ⊥) (λ list. IsFilled list × (later_phases (held_file file.now ∷ []) ≡ list))) }
+{
+    let class = spelled_class(alloc, file)?;
+    let stripped = strip(alloc, &class)?;
+    let name = stripped.name.bytes();
+    match write_class(alloc, &stripped) {
+        Ok(bytes) => Ok(HeldFile {
+            path: class_path(alloc, output, name)?,
+            bytes,
+        }),
+        Err(refused) => match limit_code(refused) {
+            Some(code) => Err(Stop::Diagnosed(diagnose(
+                alloc,
+                file.path.as_str(),
+                code,
+                name,
+            )?)),
+            None => Err(Stop::Memory),
+        },
+    }
+}
