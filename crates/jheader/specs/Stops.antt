@@ -6,6 +6,7 @@ use Rattle.std.specs.declared.alloc.Global.{Global}
 use Rattle.hdr_core.specs.Causes.{Rose}
 use Rattle.hdr_core.specs.declared.diagnostics.Diag.{Diag}
 use Rattle.hdr_core.specs.declared.held.HeldFile.{HeldFile}
+use Rattle.command_words.specs.Words.{Job, Archive, NoJob, Ijar}
 use Rattle.class_paths.specs.Paths.{File, used}
 use Rattle.jheader.specs.declared.stop.Stop.{Stop}
 use Rattle.jheader.specs.declared.stop.Stop.TheVariants as stop
@@ -40,3 +41,9 @@ IsRootOrUsed held root path = (path ≡ root) ⊎ Contains (used held root) path
 abbrev pub IsSolePath : List (List ℕ) → Option (String Global) → Type 0
 IsSolePath paths (Some path) = (paths ≡ string_bytes path ∷ []) × (ends_with nat_eq (string_bytes path) (codes "module-info.class") ≡ false)
 IsSolePath paths None = (path : List ℕ) → paths ≡ path ∷ [] → ends_with nat_eq path (codes "module-info.class") ≡ true
+
+-- the same of a job
+abbrev pub IsPathOfJob : List File → Job → List ℕ → Type 0
+IsPathOfJob held (Archive word) path = ⊥
+IsPathOfJob held NoJob path = ⊥
+IsPathOfJob held (Ijar input output) path = IsRootOrUsed held input path

@@ -18,6 +18,14 @@ pub record TellsLine (faults faults' : ℕ) (told told' : Option (List ℕ)) (li
   pub front : GrewByFront told told' line
   pub whole : (Rose faults faults' → ⊥) → told' ≡ grown told line
 
+-- a line is told, or where the count of faults rose a front of it
+abbrev pub LineTellsWithin : ℕ → ℕ → Option (List ℕ) → Option (List ℕ) → List ℕ → Type 0
+LineTellsWithin faults faults' told told' line = GrewByFront told told' line × (faults' ≡ faults → told' ≡ grown told line)
+
+-- no count of faults rose
+abbrev pub Stood : ℕ → ℕ → ℕ → ℕ → ℕ → ℕ → Type 0
+Stood files files' outs outs' err err' = (files' ≡ files) × (outs' ≡ outs) × (err' ≡ err)
+
 -- the line is told under its status, or memory ran out
 abbrev pub LineTold : Status → Status → ℕ → ℕ → Option (List ℕ) → Option (List ℕ) → List ℕ → Type 0
 LineTold own s faults faults' told told' line = ((s ≡ own) × TellsLine faults faults' told told' line) ⊎ (s ≡ status.Memory)
