@@ -6,6 +6,8 @@
 mod check;
 mod error;
 mod key;
+#[cfg(test)]
+mod tests;
 mod write;
 mod writer;
 
