@@ -1,3 +1,4 @@
+pub mod Bytes
 pub mod Firsts
 pub mod Inserting
 pub mod Keys
@@ -5,4 +6,5 @@ pub mod Needed
 pub mod Pools
 pub mod Refusals
 pub mod Spelled
+pub mod Valid
 pub mod Writes

@@ -38,7 +38,7 @@ in_left need front rest h = list_any-append (is_need need) front rest ∙ or_lef
 pub in_right : (need : Need) (front rest : List Need) → IsIn need rest → IsIn need (front ++ rest)
 in_right need front rest h = list_any-append (is_need need) front rest ∙ or_right (list_any (is_need need) front) (list_any (is_need need) rest) h
 
-need_is : (a b : Need) → is_need a b ≡ true → b ≡ a
+pub need_is : (a b : Need) → is_need a b ≡ true → b ≡ a
 need_is (TextNeed a) (TextNeed b) h = ap TextNeed (sym ((bytes_decides a b).0 h))
 need_is (ClassNeed a) (ClassNeed b) h = ap ClassNeed (sym ((bytes_decides a b).0 h))
 need_is (TextNeed a) (ClassNeed b) h = absurd (let e : false ≡ true = h in cc)

@@ -13,5 +13,5 @@ mod write;
 mod writer;
 
 pub use error::PoolErr;
-pub use laws::written_is_spelled;
+pub use laws::{valid_is_written, written_is_spelled};
 pub use write::write_class;
