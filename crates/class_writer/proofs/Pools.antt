@@ -7,9 +7,9 @@ use Rattle.indexmap.specs.IndexSet.{insert_all}
 use Rattle.class_desc.specs.declared.class.ClassDesc.{ClassDesc}
 use Rattle.class_desc.specs.ClassFile.{magic}
 use Rattle.class_desc.specs.Pool.{entry_bytes}
-use Rattle.class_desc.specs.Layout.{Need, ClassNeed, is_need, needs, pool_of, entry_in, number_in, parts_over, file_over, layout, counted, field_bytes, method_bytes, attributes_bytes}
+use Rattle.class_desc.specs.Layout.{Need, ClassNeed, is_need, needs, pool_of, entry_in, number_in, file_over, layout, counted, field_bytes, method_bytes, attributes_bytes}
 use Rattle.class_writer.specs.declared.key.Key.{Key}
-use Rattle.class_writer.specs.Writing.{Draft, Writes, need_seen, entries_bytes, pool_bytes, head_bytes, body_bytes, class_number_bytes, number_bytes, super_bytes, file_of_draft}
+use Rattle.class_writer.specs.Writing.{Draft, Writes, need_seen, entries_bytes, pool_bytes, head_bytes, body_bytes, number_bytes, super_bytes, file_of_draft}
 use Rattle.class_writer.proofs.Firsts.{insert_all_firsts}
 use Rattle.class_writer.proofs.Writes.{needs_equiv, seen_parts}
 
@@ -40,13 +40,14 @@ flat_map_map f g (x ∷ xs) = ap (λ t. f (g x) ++ t) (flat_map_map f g xs)
 together : (d : ClassDesc) (pool : List Need) → head_bytes d.minor d.major ++ (pool_bytes pool ++ body_bytes d pool) ≡ file_over pool d
 together d pool =
     sym (
-        ap (λ n. file n (flat_map entry_bytes (map (entry_in pool) pool)) (length numbers) (flat_map (to_be_bytes w16) numbers)) (length-map pool (entry_in pool))
-        ∙ ap (λ entries. file (length pool) entries (length numbers) (flat_map (to_be_bytes w16) numbers)) (flat_map_map entry_bytes (entry_in pool) pool)
-        ∙ ap (λ n. file (length pool) (entries_bytes pool pool) n (flat_map (to_be_bytes w16) numbers)) (length-map d.interfaces (λ name. number_in pool (ClassNeed name)))
-        ∙ ap (file (length pool) (entries_bytes pool pool) (length d.interfaces)) (flat_map_map (to_be_bytes w16) (λ name. number_in pool (ClassNeed name)) d.interfaces))
+    ap (λ n. file n (flat_map entry_bytes (map (entry_in pool) pool)) (length numbers) (flat_map (to_be_bytes w16) numbers)) (length-map pool (entry_in pool))
+    ∙ ap (λ entries. file (length pool) entries (length numbers) (flat_map (to_be_bytes w16) numbers)) (flat_map_map entry_bytes (entry_in pool) pool)
+    ∙ ap (λ n. file (length pool) (entries_bytes pool pool) n (flat_map (to_be_bytes w16) numbers)) (length-map d.interfaces (λ name. number_in pool (ClassNeed name)))
+    ∙ ap (file (length pool) (entries_bytes pool pool) (length d.interfaces)) (flat_map_map (to_be_bytes w16) (λ name. number_in pool (ClassNeed name)) d.interfaces))
   where
     numbers : List ℕ
     numbers = map (λ name. number_in pool (ClassNeed name)) d.interfaces
+
     file : ℕ → List ℕ → ℕ → List ℕ → List ℕ
     file entry_count entries interface_count interfaces =
         to_be_bytes w32 magic ++ (to_be_bytes w16 d.minor ++ (to_be_bytes w16 d.major
@@ -65,5 +66,5 @@ unfolding layout
 is_layout d first last is_empty w =
     let pool : last.pool ≡ pool_of d = pool_written_is d first last is_empty w in
     let body : last.body ≡ body_bytes d (pool_of d) =
-        w.body [] ∙ ap (λ (draft : Draft). draft.body ++ body_bytes d (last.pool ++ [])) is_empty ∙ ap (body_bytes d) (append-nil last.pool ∙ pool) in
+    w.body [] ∙ ap (λ (draft : Draft). draft.body ++ body_bytes d (last.pool ++ [])) is_empty ∙ ap (body_bytes d) (append-nil last.pool ∙ pool) in
     ap (λ p. head_bytes d.minor d.major ++ (pool_bytes p ++ last.body)) pool ∙ ap (λ b. head_bytes d.minor d.major ++ (pool_bytes (pool_of d) ++ b)) body ∙ together d (pool_of d)

@@ -1,6 +1,6 @@
 -- The first refusal, over lists in parts.
 use Rattle.std.proofs.Common.{◌≡◌, List, [], ◌∷◌, ◌++◌, refl, sym, ap, ◌∙◌}
-use Rattle.std.specs.Prelude.{ℕ, Option, Some, None, Result, Ok, Err}
+use Rattle.std.specs.Prelude.{ℕ, Option, Some, None, Ok, Err}
 use Rattle.std.specs.List.{flat_map}
 use Rattle.class_desc.specs.declared.class.ClassDesc.{ClassDesc}
 use Rattle.class_desc.specs.declared.class.FieldDesc.{FieldDesc}
@@ -51,15 +51,15 @@ texts_refusal d =
     let fields = flat_map field_needs d.fields in
     let methods = flat_map method_needs d.methods in
     ap (or_next (text_refusal d.name)) (
-        refusal_append need_refusal (super_needs d.super_name) (names ++ (fields ++ methods))
-        ∙ ap (λ r. or_next r (first_refusal need_refusal (names ++ (fields ++ methods)))) (of_super d.super_name)
-        ∙ ap (or_next (super_refusal d.super_name)) (
-            refusal_append need_refusal names (fields ++ methods)
-            ∙ ap (λ r. or_next r (first_refusal need_refusal (fields ++ methods))) (of_names d.interfaces)
-            ∙ ap (or_next (first_refusal text_refusal d.interfaces)) (
-                refusal_append need_refusal fields methods
-                ∙ ap (λ r. or_next r (first_refusal need_refusal methods)) (of_fields d.fields)
-                ∙ ap (or_next (first_refusal field_refusal d.fields)) (of_methods d.methods))))
+    refusal_append need_refusal (super_needs d.super_name) (names ++ (fields ++ methods))
+    ∙ ap (λ r. or_next r (first_refusal need_refusal (names ++ (fields ++ methods)))) (of_super d.super_name)
+    ∙ ap (or_next (super_refusal d.super_name)) (
+    refusal_append need_refusal names (fields ++ methods)
+    ∙ ap (λ r. or_next r (first_refusal need_refusal (fields ++ methods))) (of_names d.interfaces)
+    ∙ ap (or_next (first_refusal text_refusal d.interfaces)) (
+    refusal_append need_refusal fields methods
+    ∙ ap (λ r. or_next r (first_refusal need_refusal methods)) (of_fields d.fields)
+    ∙ ap (or_next (first_refusal field_refusal d.fields)) (of_methods d.methods))))
 
 -- what the answers of the three checks say
 

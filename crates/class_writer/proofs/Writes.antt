@@ -20,11 +20,13 @@ needs_equiv = record { refl = same; symm = either; congr = alike }
     same : (a : Need) → is_need a a ≡ true
     same (TextNeed a) = nat_list_eq_equiv.refl a
     same (ClassNeed a) = nat_list_eq_equiv.refl a
+
     either : (a b : Need) → is_need a b ≡ is_need b a
     either (TextNeed a) (TextNeed b) = nat_list_eq_equiv.symm a b
     either (TextNeed a) (ClassNeed b) = refl
     either (ClassNeed a) (TextNeed b) = refl
     either (ClassNeed a) (ClassNeed b) = nat_list_eq_equiv.symm a b
+
     alike : (a b c : Need) → is_need a b ≡ true → is_need a c ≡ is_need b c
     alike (TextNeed a) (TextNeed b) (TextNeed c) e = nat_list_eq_equiv.congr a b c e
     alike (TextNeed a) (TextNeed b) (ClassNeed c) e = refl
@@ -55,13 +57,9 @@ puts_number old keys after key body written index is_old is_after is_index is_wr
       pool = pool ∙ ap (λ (d : Draft). insert_key is_need d.pool (need_seen key)) is_old;
       body = λ more.
           let stays : position_or_len (is_need (need_seen key)) (map need_seen after ++ more) ≡ index =
-              ap (λ pool. position_or_len (is_need (need_seen key)) (pool ++ more)) pool ∙ place_stays is_need needs_equiv (need_seen key) (map need_seen keys) more ∙ sym (is_index ∙ position_seen key keys) in
+          ap (λ pool. position_or_len (is_need (need_seen key)) (pool ++ more)) pool ∙ place_stays is_need needs_equiv (need_seen key) (map need_seen keys) more ∙ sym (is_index ∙ position_seen key keys) in
           is_written ∙ ap (λ (d : Draft). d.body ++ to_be_bytes w16 (index + 1)) is_old ∙ ap (λ n. old.body ++ to_be_bytes w16 (n + 1)) (sym stays);
     }
-
--- nothing is written
-pub stands : (w : Draft) → Writes [] (λ _. []) w w
-stands w = record { pool = refl; body = λ more. sym (append-nil w.body) }
 
 -- one item behind the other
 pub then : {a b c : Draft} {m n : List Need} {f g : List Need → List ℕ} → Writes m f a b → Writes n g b c → Writes (m ++ n) (λ pool. f pool ++ g pool) a c

@@ -1,11 +1,9 @@
 -- How a class file is put together: what stands behind the pool is written item by item, while the pool is gathered.
-use Rattle.std.specs.Prelude.{◌≡◌, ℕ, ◌+◌, List, [], ◌∷◌, ◌++◌, Option, Some, None, length, map}
+use Rattle.std.specs.Prelude.{◌≡◌, ℕ, ◌+◌, List, ◌++◌, Option, length}
 use Rattle.std.specs.List.{flat_map}
 use Rattle.std.specs.Int.{w16, w32, to_be_bytes}
 use Rattle.indexmap.specs.IndexSet.{insert_all}
 use Rattle.class_desc.specs.declared.class.ClassDesc.{ClassDesc}
-use Rattle.class_desc.specs.declared.class.FieldDesc.{FieldDesc}
-use Rattle.class_desc.specs.declared.class.MethodDesc.{MethodDesc}
 use Rattle.class_desc.specs.ClassFile.{magic}
 use Rattle.class_desc.specs.Pool.{entry_bytes}
 use Rattle.class_desc.specs.Layout.{Need, TextNeed, ClassNeed, is_need, entry_in, number_in, super_number, counted, field_bytes, method_bytes, attributes_bytes}

@@ -6,8 +6,12 @@
 mod check;
 mod error;
 mod key;
+mod laws;
+#[cfg(test)]
+mod tests;
 mod write;
 mod writer;
 
 pub use error::PoolErr;
+pub use laws::{valid_is_written, written_is_spelled};
 pub use write::write_class;

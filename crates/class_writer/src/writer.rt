@@ -110,12 +110,7 @@ impl<'a> ClassWriter<'a> {
     }
 
     /// A field or a method, with no attributes (JVMS 4.5, 4.6).
-    fn member(
-        &mut self,
-        flags: u16,
-        name: &'a Text,
-        descriptor: &'a Text,
-    ) -> Result<(), Memory>
+    fn member(&mut self, flags: u16, name: &'a Text, descriptor: &'a Text) -> Result<(), Memory>
         ensures { OnOk result (Writes (TextNeed name.now ∷ TextNeed descriptor.now ∷ []) (λ pool. member_bytes pool flags name.now descriptor.now) self.old self.new) }
     {
         self.number(usize::from(flags))?;
@@ -170,7 +165,7 @@ impl<'a> ClassWriter<'a> {
         self.number(0)
     }
 
-    /// The number of an entry of the pool: they count from 1 (JVMS 4.1).
+    /// The number of an entry that is in the pool: they count from 1 (JVMS 4.1).
     fn number_of(&self, key: &Key<'a>) -> usize
         ensures { result ≡ number_in self.now.pool (need_seen key.now) }
     {
