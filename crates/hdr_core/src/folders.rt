@@ -1,4 +1,4 @@
-ghost use Rattle.std.specs.Prelude.{◌≡◌, ◌≤◌, ◌+◌, true, None, length, vec_len, IfOk, OnOk};
+ghost use Rattle.std.specs.Prelude.{◌≡◌, ◌≤◌, ◌+◌, None, length, nat_le, vec_len, IfOk, OnOk};
 ghost use Rattle.hdr_core.specs.Faults.{fault_count};
 
 use crate::errors::{CallErr, FileErr};
@@ -26,15 +26,19 @@ const PIECE: usize = 65_536;
 pub struct DirFiles<R> {
     rt: R,
     faults: Faults,
+    // What is read goes through it. The first reading makes it.
+    buffer: Vec<u8>,
 }
 
 impl<R: rt::Files + AllocGlobal + Clone + Drop> DirFiles<R> {
     pub fn of(rt: R) -> DirFiles<R>
         ensures { ⟦<DirFiles<R> as Files>⟧.faults result ≡ 0 }
     {
+        let buffer = Vec::new(rt.alloc());
         DirFiles {
             rt,
             faults: Faults::none(),
+            buffer,
         }
     }
 }
@@ -52,7 +56,7 @@ impl<R: rt::Files + AllocGlobal + Clone + Drop> Files for DirFiles<R> {
     }
 
     fn read(&mut self, path: &str, into: &mut Vec<u8>) -> Result<(), FileErr> {
-        match read_file(&self.rt, path, into) {
+        match read_file(&self.rt, path, &mut self.buffer, into) {
             Ok(true) => Ok(()),
             Ok(false) => Err(FileErr::TooLong),
             Err(error) => match self.faults.refuse(&error) {
@@ -128,13 +132,17 @@ impl Walk {
 }
 
 // Reads a whole file, and says whether it is short enough. Of a longer one no more is read than shows that it is longer.
-fn read_file<R: rt::Files + AllocGlobal>(rt: &R, path: &str, into: &mut Vec<u8>) -> io::Result<bool>
-    ensures { IfOk result (λ fits. fits ≡ true → length into.new.items ≤ LONGEST_FILE) }
+fn read_file<R: rt::Files>(
+    rt: &R,
+    path: &str,
+    buffer: &mut Vec<u8>,
+    into: &mut Vec<u8>,
+) -> io::Result<bool>
+    ensures { IfOk result (λ fits. fits ≡ nat_le (length into.new.items) LONGEST_FILE) }
 {
     into.clear();
     let mut file = File::open(rt, path)?;
-    let mut buffer = Vec::new(rt.alloc());
-    buffer.resize(PIECE, 0u8)?;
+    buffer.resize(PIECE, 0)?;
     while into.len() <= LONGEST_FILE {
         let room = PIECE.min(LONGEST_FILE + 1 - into.len());
         let count = file.read(&mut buffer[..room])?;
