@@ -1,4 +1,5 @@
--- The segments of a list of tokens whose brackets pair.
+-- The segments of a list of tokens whose brackets pair: the declarations of a unit (JLS 7.3) or of a class body
+-- (JLS 8.1.7, 8.9.1, 8.10.2, 9.1.5), cut apart without their bodies.
 use Rattle.std.specs.Prelude.{ℕ, zero, suc, Bool, true, false, not, ◌==◌, ◌&&◌, ◌||◌, if◌then◌else◌, List, [], ◌∷◌, ◌++◌, map, Option, Some, None}
 use Rattle.java_token.specs.declared.token.Token.{Token}
 use Rattle.segments.specs.declared.bracket.Mark.{Mark}
@@ -59,7 +60,9 @@ last_is_assign so_far [] = so_far
 last_is_assign so_far (p ∷ ps) = last_is_assign (not (begins is_semicolon p) && (so_far || begins is_assign p)) ps
 
 -- the place behind `piece`, of a list that has the pieces `before` in front of it, is an end: the piece is a `;`, or
--- a group in braces that has no `default` right before it, and no `=` outside brackets behind the last `;`
+-- a group in braces that has no `default` right before it, and no `=` outside brackets behind the last `;`.
+-- So a body ends a declaration (JLS 8.1.7, 8.4.7, 8.6 to 8.8), and an initialiser (JLS 8.3) and the default value of an
+-- annotation's element (JLS 9.6.2) don't
 abbrev pub is_end : List Piece → Piece → Bool
 is_end before piece =
     begins is_semicolon piece || (begins opens_braces piece && not (last_is_assign false before || last_begins is_default before))
@@ -80,7 +83,8 @@ braces_alone_from before (t ∷ ts) =
 unfoldable pub braces_alone : List Token → List Token
 braces_alone tokens = braces_alone_from [] tokens
 
--- these pieces written one after the other, where behind a `=` outside brackets each group in braces is its two braces alone
+-- these pieces written one after the other, where behind a `=` outside brackets, in an initialiser (JLS 8.3), each
+-- group in braces is its two braces alone
 abbrev pub head_from : Bool → List Piece → List Token
 head_from assigned [] = []
 head_from assigned (p ∷ ps) = (if assigned then braces_alone p else p) ++ head_from (assigned || begins is_assign p) ps
@@ -101,7 +105,7 @@ abbrev pub some_place : (List Token → List Token → Bool) → List Token → 
 some_place is before [] = false
 some_place is before (t ∷ behind) = is before (t ∷ behind) || some_place is (before ++ t ∷ []) behind
 
--- the group behind this head is a class body
+-- the group behind this head is a class body (JLS 8.1, 8.9, 8.10, 9.1, 9.6)
 unfoldable pub is_class_head : List Token → Bool
 is_class_head head = some_place declares_class [] head
 
