@@ -7,7 +7,7 @@ use std::test::Fail;
 
 /// Each list, and its segments: `~` ends a tail, `%` and a line a skipped group, and a class body stands between
 /// `<<` and `>>`. A `/` begins the next line.
-const CUTS: [(&str, &str); 50] = [
+const CUTS: [(&str, &str); 51] = [
     // what a body, an initialiser and an annotation element's default keep
     (
         "int a = f ( x -> { return ; } ) , b ; void m ( ) { { } }",
@@ -26,6 +26,10 @@ const CUTS: [(&str, &str); 50] = [
         "A v ( ) default @ A ( { 1 } ) ;",
     ),
     ("X v ( ) default { } { y }", "X v ( ) default { } % 1"),
+    (
+        "default void m ( ) { } default",
+        "default void m ( ) % 1 default ~",
+    ),
     ("int [ ] a = { 1 , 2 } ;", "int [ ] a = { } ;"),
     (
         "int [ ] [ ] a = { { 1 } , { 2 } } , b = { } ;",
