@@ -1,16 +1,17 @@
 -- Class bodies that don't stand too deep.
-use Rattle.std.proofs.Common.{◌≡◌, refl, sym, ◌∙◌, ap, subst, ℕ, zero, suc, ◌+◌, ◌≤◌, arith, Bool, true, false, cond, if◌then◌else◌, List, [], ◌∷◌, ◌++◌, length, length-append, map, Option, Some, None}
+use Rattle.std.proofs.Common.{◌≡◌, refl, sym, ◌∙◌, ap, ℕ, zero, suc, ◌+◌, ◌≤◌, arith, Bool, true, false, cond, if◌then◌else◌, List, [], ◌∷◌, ◌++◌, length, length-append, map, Option, Some, None}
 use Rattle.java_token.specs.declared.token.Token.{Token}
 use Rattle.segments.specs.declared.bracket.Pair.{Pair}
 use Rattle.segments.specs.declared.bracket.Mark.TheVariants.{Opening}
 use Rattle.segments.specs.declared.segment.SegEnd.TheVariants.{Semi, Body, Skipped}
 use Rattle.segments.specs.Brackets.{mark_of}
 use Rattle.segments.specs.Words.{is_semicolon}
-use Rattle.segments.specs.Cut.{Piece, pieces, ends, between_ends, behind_ends, head_of, is_class_head, line_of, without_last, segment_of, tail_of, cut_within, first_some, depth_of, deep_beyond}
+use Rattle.segments.specs.Cut.{Piece, head_of, is_class_head, line_of, without_last, segment_of, tail_of, cut_within, first_some, depth_of, deep_beyond}
+use Rattle.segments.specs.Segmentwise.{ends, between_ends, behind_ends}
 use Rattle.segments.proofs.Forests.{Forest, Nothing, Single, Group, flat}
-use Rattle.segments.proofs.Pieces.{pieces_of, pieces_flat}
+use Rattle.segments.proofs.Pieces.{pieces_of}
 use Rattle.segments.proofs.Heads.{without_last_end, opening_no_semicolon}
-use Rattle.segments.proofs.Outside.{body_within, deep_within, cut_by_body, deep_by_body, ends_single, segment_is, depth_is}
+use Rattle.segments.proofs.Outside.{body_within, deep_within, level_segments, level_deep, ends_single, segment_is, depth_is}
 
 first_none : (x : Option ℕ) (xs : List (Option ℕ)) → first_some (x ∷ xs) ≡ None → x ≡ None
 first_none None xs e = refl
@@ -44,10 +45,7 @@ semicolon_same n k before t s =
 -- a list whose class bodies agree
 cut_agrees : (f : Forest) (n k : ℕ) → Agrees n k (between_ends [] (pieces_of f)) → deep_beyond n (flat f) ≡ None → cut_within n (flat f) ≡ cut_within k (flat f)
 cut_agrees f n k h none =
-    let of : List Piece → Type 0 = λ ps. Agrees n k (between_ends [] ps) in
-    let agreed = subst of (sym (pieces_flat f)) h in
-    let e = agreed (sym (deep_by_body n (flat f)) ∙ none) in
-    cut_by_body n (flat f) ∙ ap (λ x. x ++ tail_of (head_of (behind_ends [] (pieces (flat f))))) e ∙ sym (cut_by_body k (flat f))
+    sym (level_segments n f) ∙ ap (λ x. x ++ tail_of (head_of (behind_ends [] (pieces_of f)))) (h (level_deep n f ∙ none)) ∙ level_segments k f
 
 body_same : (i : Forest) (c : Token) (n k line deep : ℕ) → length (flat i) + 1 ≤ k
     → ((m j : ℕ) → length (flat i) ≤ j → Agrees m j (between_ends [] (pieces_of i)))

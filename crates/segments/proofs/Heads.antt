@@ -9,7 +9,8 @@ use Rattle.segments.specs.declared.bracket.Pair.{Pair}
 use Rattle.segments.specs.declared.bracket.Mark.TheVariants.{Opening}
 use Rattle.segments.specs.Brackets.{mark_of, mark_of_kind}
 use Rattle.segments.specs.Words.{is_semicolon, is_assign, is_default, kind_is_semicolon, kind_is_assign, kind_is_default}
-use Rattle.segments.specs.Cut.{Piece, begins, last_begins, is_assigned, braces_alone, head_from, head_of, without_last}
+use Rattle.segments.specs.Cut.{Piece, begins, last_begins, braces_alone, head_from, head_of, without_last}
+use Rattle.segments.specs.Segmentwise.{is_assigned}
 
 pub last_begins_end : (is : Token → Bool) (ps : List Piece) (p : Piece) → last_begins is (ps ++ p ∷ []) ≡ begins is p
 last_begins_end is [] p = refl

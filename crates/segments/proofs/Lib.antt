@@ -4,6 +4,7 @@ pub mod Forests
 pub mod Pieces
 pub mod Alone
 pub mod Heads
+pub mod Places
 pub mod Running
 pub mod Outside
 pub mod Wrong

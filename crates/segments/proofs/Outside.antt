@@ -15,11 +15,14 @@ use Rattle.segments.specs.declared.cutter.Place.TheVariants as place
 use Rattle.segments.specs.declared.cutter.Group.TheVariants as group
 use Rattle.segments.specs.Brackets.{mark_of}
 use Rattle.segments.specs.Words.{is_semicolon, is_assign, is_default}
-use Rattle.segments.specs.Cut.{Piece, begins, last_begins, is_assigned, opens_braces, mark_is_braces, ends, between_ends, behind_ends, braces_alone, head_of, is_class_head, line_of, without_last, segment_of, tail_of, cut_by, cut_within, first_some, depth_of, deep_by, deep_beyond}
+use Rattle.segments.specs.Cut.{Piece, pieces, is_end, begins, last_begins, opens_braces, mark_is_braces, braces_alone, head_of, is_class_head, line_of, without_last, segment_of, tail_of, cut_by, cut_within, first_some, depth_of, deep_by, deep_beyond}
+use Rattle.segments.specs.Places.{between, behind}
+use Rattle.segments.specs.Segmentwise.{is_assigned, ends, between_ends, behind_ends}
 use Rattle.segments.specs.Levels.{fresh, stored, ended, segments_of}
 use Rattle.segments.specs.Steps.{entry, place_in, is_ending, or_else, first_line_or, noted_deep, skipping, body, ending, behind_default, opened_in_head, step, run}
 use Rattle.segments.proofs.Forests.{Forest, Nothing, Single, Group, flat}
-use Rattle.segments.proofs.Pieces.{pieces_of, pieces_flat}
+use Rattle.segments.proofs.Pieces.{pieces_of}
+use Rattle.segments.proofs.Places.{parts_flat, left_flat}
 use Rattle.segments.proofs.Alone.{alone, alone_whole}
 use Rattle.segments.proofs.Heads.{last_begins_end, is_assigned_end, head_end, without_last_end, opening_no_semicolon, opening_no_assign, opening_no_default}
 use Rattle.segments.proofs.Running.{at, step_plain, step_opening, step_closing, run_single, run_group, hidden_run, grown, place_in_unassigned, inside_all, inside_alone}
@@ -308,12 +311,12 @@ too_deep_run done before bs d o eo i c ec ys s h k after =
 pub level_segments : (m : ℕ) (i : Forest)
     → segments_of (level_of m (map (segment_of (body_within m)) (between_ends [] (pieces_of i))) (behind_ends [] (pieces_of i))) ≡ cut_within m (flat i)
 level_segments m i =
-    ap (λ ps. map (segment_of (body_within m)) (between_ends [] ps) ++ tail_of (head_of (behind_ends [] ps))) (sym (pieces_flat i))
+    ap (λ xs. map (segment_of (body_within m)) xs ++ tail_of (head_of (behind_ends [] (pieces_of i)))) (sym (parts_flat i))
+    ∙ ap (λ ys. map (segment_of (body_within m)) (between is_end [] [] (pieces (flat i))) ++ tail_of (head_of ys)) (sym (left_flat i))
     ∙ sym (cut_by_body m (flat i))
 
 pub level_deep : (m : ℕ) (i : Forest) → first_some (map (depth_of (deep_within m)) (between_ends [] (pieces_of i))) ≡ deep_beyond m (flat i)
-level_deep m i =
-    ap (λ ps. first_some (map (depth_of (deep_within m)) (between_ends [] ps))) (sym (pieces_flat i)) ∙ sym (deep_by_body m (flat i))
+level_deep m i = ap (λ xs. first_some (map (depth_of (deep_within m)) xs)) (sym (parts_flat i)) ∙ sym (deep_by_body m (flat i))
 
 suc_less : (m : ℕ) → suc m - 1 ≡ m
 suc_less m = omega arith

@@ -1,18 +1,25 @@
 -- The pieces of a forest.
-use Rattle.std.proofs.Common.{◌≡◌, refl, ◌∙◌, ap, ℕ, ◌+◌, ◌<◌, ◌≤◌, arith, Bool, true, false, cond, if◌then◌else◌, List, [], ◌∷◌, ◌++◌, append_assoc, append-nil}
-use Rattle.std.proofs.lemmas.Bool.{ne_eqb, eq-eqb}
+use Rattle.std.proofs.Common.{sym, ◌≡◌, refl, ◌∙◌, ap, ℕ, ◌+◌, ◌<◌, ◌≤◌, arith, Bool, true, false, cond, if◌then◌else◌, List, [], ◌∷◌, ◌++◌, append_assoc, append-nil, ◌==◌, map}
+use Rattle.std.proofs.lemmas.Bool.{ne_eqb, eq-eqb, eqb-true, eqb-false}
 use Rattle.java_token.specs.declared.token.Token.{Token}
 use Rattle.segments.specs.declared.bracket.Pair.{Pair}
 use Rattle.segments.specs.declared.bracket.Mark.{Mark}
 use Rattle.segments.specs.declared.bracket.Mark.TheVariants.{Opening, Closing, Plain}
 use Rattle.segments.specs.Brackets.{mark_of, is_opening, is_closing, count, opens, closes, is_outside}
-use Rattle.segments.specs.Cut.{Piece, pieces_from, pieces}
+use Rattle.segments.specs.Cut.{Piece, pieces, whole, is_outside_behind}
+use Rattle.segments.specs.Places.{between}
 use Rattle.segments.proofs.Forests.{Forest, Nothing, Single, Group, flat}
 
 abbrev pub pieces_of : Forest → List Piece
 pieces_of Nothing = []
 pieces_of (Single t e f) = (t ∷ []) ∷ pieces_of f
 pieces_of (Group p o eo i c ec f) = (o ∷ (flat i ++ c ∷ [])) ∷ pieces_of f
+
+-- the pieces, by the tokens of each alone
+abbrev pub pieces_from : Piece → List Token → List Piece
+pieces_from piece [] = []
+pieces_from piece (t ∷ ts) =
+    if is_outside (piece ++ t ∷ []) then (piece ++ t ∷ []) ∷ pieces_from [] ts else pieces_from (piece ++ t ∷ []) ts
 
 pub count_append : (p : Token → Bool) (xs ys : List Token) → count p (xs ++ ys) ≡ count p xs + count p ys
 count_append p [] ys = omega arith
@@ -114,12 +121,12 @@ within (Group p o eo i c ec f) piece rest h =
     ∙ within f (((piece ++ o ∷ []) ++ flat i) ++ c ∷ []) rest r
     ∙ ap (λ x. pieces_from x rest) all
 
-pub pieces_flat : (f : Forest) → pieces (flat f) ≡ pieces_of f
-pieces_flat Nothing = refl
-pieces_flat (Single t e f) =
+pieces_from_flat : (f : Forest) → pieces_from [] (flat f) ≡ pieces_of f
+pieces_from_flat Nothing = refl
+pieces_from_flat (Single t e f) =
     let even_one : opens (t ∷ []) ≡ closes (t ∷ []) = rw e refl in
-    last_taken [] t (flat f) (outside _ even_one) ∙ ap (λ x. (t ∷ []) ∷ x) (pieces_flat f)
-pieces_flat (Group p o eo i c ec f) =
+    last_taken [] t (flat f) (outside _ even_one) ∙ ap (λ x. (t ∷ []) ∷ x) (pieces_from_flat f)
+pieces_from_flat (Group p o eo i c ec f) =
     let k = open_opening [] o p eo (omega arith) in
     let n = group_opens p [] o eo i c ec in
     let m = group_closes p [] o eo i c ec in
@@ -127,4 +134,51 @@ pieces_flat (Group p o eo i c ec f) =
     taken [] o (flat i ++ (c ∷ flat f)) (not_outside _ k)
     ∙ within i (o ∷ []) (c ∷ flat f) k
     ∙ last_taken ((o ∷ []) ++ flat i) c (flat f) (outside _ r)
-    ∙ ap (λ x. (o ∷ (flat i ++ c ∷ [])) ∷ x) (pieces_flat f)
+    ∙ ap (λ x. (o ∷ (flat i ++ c ∷ [])) ∷ x) (pieces_from_flat f)
+
+-- ---- places of the whole list, and of a piece
+
+same_test : (a b c d : ℕ) → a + d ≡ b + c → (a == b) ≡ (c == d)
+same_test a b c d h = by (c == d) refl where
+  by : (x : Bool) → (c == d) ≡ x → (a == b) ≡ (c == d)
+  by true e = let f = eqb-true c d e in eq-eqb a b (omega arith) ∙ sym e
+  by false e = ne_eqb a b (λ x. eqb-false c d e (omega arith)) ∙ sym e
+
+-- what stands before a piece has as many opening as closing brackets
+abbrev Even : List Token → List Token → Type 0
+Even all before = opens all + closes before ≡ closes all + opens before
+
+even_more : (all before : List Token) (t : Token) → Even all before → Even (all ++ t ∷ []) (before ++ t ∷ [])
+even_more all before t h =
+    let a = count_append (λ u. is_opening (mark_of u)) all (t ∷ []) in
+    let b = count_append (λ u. is_opening (mark_of u)) before (t ∷ []) in
+    let c = count_append (λ u. is_closing (mark_of u)) all (t ∷ []) in
+    let d = count_append (λ u. is_closing (mark_of u)) before (t ∷ []) in omega arith
+
+same_outside : (all before : List Token) → Even all before → is_outside all ≡ is_outside before
+unfolding is_outside
+same_outside all before h = same_test (opens all) (closes all) (opens before) (closes before) h
+
+even_outside : (all : List Token) → is_outside all ≡ true → Even all []
+unfolding is_outside
+even_outside all e = let f = eqb-true (opens all) (closes all) e in omega arith
+
+pieces_are : (ts all before : List Token) → Even all before → map whole (between is_outside_behind all before ts) ≡ pieces_from before ts
+pieces_are [] all before h = refl
+pieces_are (t ∷ ts) all before h = by (is_outside (before ++ t ∷ [])) refl (pieces_are ts) where
+  same : is_outside (all ++ t ∷ []) ≡ is_outside (before ++ t ∷ [])
+  same = same_outside (all ++ t ∷ []) (before ++ t ∷ []) (even_more all before t h)
+
+  by : (b : Bool) → is_outside (before ++ t ∷ []) ≡ b → ((all before : List Token) → Even all before → map whole (between is_outside_behind all before ts) ≡ pieces_from before ts)
+      → map whole (between is_outside_behind all before (t ∷ ts)) ≡ pieces_from before (t ∷ ts)
+  by true e more =
+      ap (λ b. map whole (cond b ((before, t) ∷ between is_outside_behind (all ++ t ∷ []) [] ts) (between is_outside_behind (all ++ t ∷ []) (before ++ t ∷ []) ts))) (same ∙ e)
+      ∙ ap (λ x. (before ++ t ∷ []) ∷ x) (more (all ++ t ∷ []) [] (even_outside (all ++ t ∷ []) (same ∙ e)))
+      ∙ sym (ap (λ b. cond b ((before ++ t ∷ []) ∷ pieces_from [] ts) (pieces_from (before ++ t ∷ []) ts)) e)
+  by false e more =
+      ap (λ b. map whole (cond b ((before, t) ∷ between is_outside_behind (all ++ t ∷ []) [] ts) (between is_outside_behind (all ++ t ∷ []) (before ++ t ∷ []) ts))) (same ∙ e)
+      ∙ more (all ++ t ∷ []) (before ++ t ∷ []) (even_more all before t h)
+      ∙ sym (ap (λ b. cond b ((before ++ t ∷ []) ∷ pieces_from [] ts) (pieces_from (before ++ t ∷ []) ts)) e)
+
+pub pieces_flat : (f : Forest) → pieces (flat f) ≡ pieces_of f
+pieces_flat f = pieces_are (flat f) [] [] refl ∙ pieces_from_flat f

@@ -13,7 +13,8 @@ use Rattle.segments.specs.declared.cutter.Cutter.{Cutter}
 use Rattle.segments.specs.declared.cutter.Open.{Open}
 use Rattle.segments.specs.declared.cutter.Place.TheVariants as place
 use Rattle.segments.specs.Brackets.{mark_of, same_pair, IsBalanced, no_token, single, in_group, is_closing, Bracket, bracket_of, in_front, unpaired, first_line, first_wrong, wrong_line}
-use Rattle.segments.specs.Cut.{between_ends, behind_ends, segment_of, depth_of, first_some, cut_within, deep_beyond}
+use Rattle.segments.specs.Cut.{segment_of, depth_of, first_some, cut_within, deep_beyond}
+use Rattle.segments.specs.Segmentwise.{between_ends, behind_ends}
 use Rattle.segments.specs.Levels.{fresh, segments_of}
 use Rattle.segments.specs.Steps.{start, run}
 use Rattle.segments.specs.Finish.{finished_by, finished, Gives}

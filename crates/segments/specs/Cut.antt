@@ -1,6 +1,6 @@
--- The segments of a list of tokens whose brackets pair.
-use Rattle.std.specs.Prelude.{ℕ, zero, suc, Bool, true, false, not, ◌==◌, ◌&&◌, ◌||◌, if◌then◌else◌, List, [], ◌∷◌, ◌++◌, map, length, Option, Some, None}
-use Rattle.std.specs.List.{list_any}
+-- The segments of a list of tokens whose brackets pair: the declarations of a unit (JLS 7.3) or of a class body
+-- (JLS 8.1.7, 8.9.1, 8.10.2, 9.1.5), cut apart without their bodies.
+use Rattle.std.specs.Prelude.{ℕ, zero, suc, Bool, true, false, not, ◌==◌, ◌&&◌, ◌||◌, if◌then◌else◌, List, [], ◌∷◌, ◌++◌, map, Option, Some, None}
 use Rattle.java_token.specs.declared.token.Token.{Token}
 use Rattle.segments.specs.declared.bracket.Mark.{Mark}
 use Rattle.segments.specs.declared.bracket.Mark.TheVariants.{Opening, Closing}
@@ -9,21 +9,24 @@ use Rattle.segments.specs.declared.segment.Segment.{Segment}
 use Rattle.segments.specs.declared.segment.SegEnd.{SegEnd}
 use Rattle.segments.specs.declared.segment.SegEnd.TheVariants.{Semi, Body, Skipped, Tail}
 use Rattle.segments.specs.Brackets.{mark_of, count, is_outside}
+use Rattle.segments.specs.Places.{between, behind}
 use Rattle.segments.specs.Words.{is_semicolon, is_assign, is_dot, is_default, begins_class}
 
--- ---- pieces: a list whose brackets pair, cut at each place outside all brackets, so that a piece is
--- one token that is no bracket, or one group with its brackets
+-- ---- pieces
 
+-- one token that is no bracket, or one group with its brackets
 abbrev pub Piece : Type 0
 Piece = List Token
 
-abbrev pub pieces_from : Piece → List Token → List Piece
-pieces_from piece [] = if (0 == length piece) then [] else piece ∷ []
-pieces_from piece (t ∷ ts) =
-    if is_outside (piece ++ t ∷ []) then (piece ++ t ∷ []) ∷ pieces_from [] ts else pieces_from (piece ++ t ∷ []) ts
+abbrev pub is_outside_behind : List Token → Token → Bool
+is_outside_behind before t = is_outside (before ++ t ∷ [])
 
+abbrev pub whole : List Token × Token → Piece
+whole (before, t) = before ++ t ∷ []
+
+-- what stands between neighbouring places outside all brackets
 abbrev pub pieces : List Token → List Piece
-pieces tokens = pieces_from [] tokens
+pieces tokens = map whole (between is_outside_behind [] [] tokens)
 
 abbrev pub begins : (Token → Bool) → Piece → Bool
 begins is [] = false
@@ -49,28 +52,20 @@ opens_braces token = mark_is_braces (mark_of token)
 unfoldable pub closes_braces : Token → Bool
 closes_braces token = mark_ends_braces (mark_of token)
 
--- ---- ends: a place of a list is given by the pieces before it and the piece behind it
+-- ---- ends
 
--- a `=` outside brackets stands among them
-abbrev pub is_assigned : List Piece → Bool
-is_assigned before = list_any (begins is_assign) before
+-- the last one of the `;` and `=` among these pieces is a `=`
+abbrev pub last_is_assign : Bool → List Piece → Bool
+last_is_assign so_far [] = so_far
+last_is_assign so_far (p ∷ ps) = last_is_assign (not (begins is_semicolon p) && (so_far || begins is_assign p)) ps
 
--- a segment whose pieces are `before` and then `piece` ends behind `piece`:
--- a `;`, or a group in braces with no `=` before it and no `default` right before it
-abbrev pub ends : List Piece → Piece → Bool
-ends before piece =
-    begins is_semicolon piece || (begins opens_braces piece && not (is_assigned before || last_begins is_default before))
-
--- what stands between neighbouring ends, where `before` has been seen since the last one:
--- each time the pieces before the end, and the piece that ends them
-abbrev pub between_ends : List Piece → List Piece → List (List Piece × Piece)
-between_ends before [] = []
-between_ends before (p ∷ ps) = if ends before p then (before, p) ∷ between_ends [] ps else between_ends (before ++ p ∷ []) ps
-
--- what is left behind the last end
-abbrev pub behind_ends : List Piece → List Piece → List Piece
-behind_ends before [] = before
-behind_ends before (p ∷ ps) = if ends before p then behind_ends [] ps else behind_ends (before ++ p ∷ []) ps
+-- the place behind `piece`, of a list that has the pieces `before` in front of it, is an end: the piece is a `;`, or
+-- a group in braces that has no `default` right before it, and no `=` outside brackets behind the last `;`.
+-- So a body ends a declaration (JLS 8.1.7, 8.4.7, 8.6 to 8.8), and an initialiser (JLS 8.3) and the default value of an
+-- annotation's element (JLS 9.6.2) don't
+abbrev pub is_end : List Piece → Piece → Bool
+is_end before piece =
+    begins is_semicolon piece || (begins opens_braces piece && not (last_is_assign false before || last_begins is_default before))
 
 -- ---- heads
 
@@ -88,7 +83,8 @@ braces_alone_from before (t ∷ ts) =
 unfoldable pub braces_alone : List Token → List Token
 braces_alone tokens = braces_alone_from [] tokens
 
--- these pieces written one after the other, where behind a `=` outside brackets each group in braces is its two braces alone
+-- these pieces written one after the other, where behind a `=` outside brackets, in an initialiser (JLS 8.3), each
+-- group in braces is its two braces alone
 abbrev pub head_from : Bool → List Piece → List Token
 head_from assigned [] = []
 head_from assigned (p ∷ ps) = (if assigned then braces_alone p else p) ++ head_from (assigned || begins is_assign p) ps
@@ -109,7 +105,7 @@ abbrev pub some_place : (List Token → List Token → Bool) → List Token → 
 some_place is before [] = false
 some_place is before (t ∷ behind) = is before (t ∷ behind) || some_place is (before ++ t ∷ []) behind
 
--- the group behind this head is a class body
+-- the group behind this head is a class body (JLS 8.1, 8.9, 8.10, 9.1, 9.6)
 unfoldable pub is_class_head : List Token → Bool
 is_class_head head = some_place declares_class [] head
 
@@ -140,7 +136,7 @@ tail_of (t ∷ ts) = record { head = t ∷ ts; end = Tail } ∷ []
 
 abbrev pub cut_by : (ℕ → List Token → SegEnd) → List Token → List Segment
 cut_by body tokens =
-    map (segment_of body) (between_ends [] (pieces tokens)) ++ tail_of (head_of (behind_ends [] (pieces tokens)))
+    map (segment_of body) (between is_end [] [] (pieces tokens)) ++ tail_of (head_of (behind is_end [] [] (pieces tokens)))
 
 -- the segments, where a class body in more than `most` class bodies, itself counted, is left uncut
 unfoldable pub cut_within : ℕ → List Token → List Segment
@@ -160,7 +156,7 @@ depth_of body (before, t ∷ ts) =
     if is_semicolon t then None else (if is_class_head (head_of before) then body (line_of (head_of before)) (without_last ts) else None)
 
 abbrev pub deep_by : (ℕ → List Token → Option ℕ) → List Token → Option ℕ
-deep_by body tokens = first_some (map (depth_of body) (between_ends [] (pieces tokens)))
+deep_by body tokens = first_some (map (depth_of body) (between is_end [] [] (pieces tokens)))
 
 -- the line of the head of the first class body that stands in more than `most`, itself counted
 unfoldable pub deep_beyond : ℕ → List Token → Option ℕ

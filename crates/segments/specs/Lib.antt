@@ -1,6 +1,8 @@
 pub mod Brackets
 pub mod Words
+pub mod Places
 pub mod Cut
+pub mod Segmentwise
 pub mod Stack
 pub mod Levels
 pub mod Steps

@@ -4,7 +4,7 @@ ghost use Rattle.segments.specs.Brackets.{mark_of, is_opening, is_closing};
 use java_token::{OpTok, Token, TokenKind};
 
 /// The pairs of brackets (JLS 3.11).
-#[derive(Clone, Copy, Debug, PartialEq, Eq)]
+#[derive(Clone, Copy, PartialEq, Eq)]
 pub enum Pair {
     Parentheses,
     Brackets,
@@ -12,7 +12,7 @@ pub enum Pair {
 }
 
 /// What a token is among brackets.
-#[derive(Clone, Copy, Debug, PartialEq, Eq)]
+#[derive(Clone, Copy)]
 pub enum Mark {
     Opening(Pair),
     Closing(Pair),

@@ -15,7 +15,7 @@ use std::alloc::Global;
 use std::mem;
 
 /// Cuts a list of tokens, one token after the other.
-#[derive(Debug, Drop)]
+#[derive(Drop)]
 pub struct Cutter {
     pub level: Level,
     /// The brackets that are open, the innermost last.
@@ -28,7 +28,7 @@ pub struct Cutter {
 }
 
 /// Where the next token stands.
-#[derive(Clone, Copy, Debug, PartialEq, Eq)]
+#[derive(Clone, Copy)]
 pub enum Place {
     /// Outside all brackets of the level.
     Outside,
@@ -39,7 +39,7 @@ pub enum Place {
 }
 
 /// An opening bracket whose partner has not come.
-#[derive(Debug, Drop)]
+#[derive(Drop)]
 pub struct Open {
     pub pair: Pair,
     pub line: u32,
@@ -47,7 +47,7 @@ pub struct Open {
 }
 
 /// What an open group is.
-#[derive(Debug, Drop)]
+#[derive(Drop)]
 pub enum Group {
     /// Its brackets are in the head, outside other brackets.
     Outer,

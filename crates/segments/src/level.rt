@@ -9,7 +9,7 @@ use std::alloc::Global;
 use std::mem;
 
 /// The segments of the unit or of one class body, as far as they are read.
-#[derive(Debug, Drop)]
+#[derive(Drop)]
 pub struct Level {
     /// How many more class bodies may stand in each other here.
     pub left: u32,

@@ -6,6 +6,7 @@ mod class_head;
 mod cut;
 mod cutter;
 mod error;
+mod laws;
 mod level;
 mod list;
 mod segment;
@@ -13,6 +14,7 @@ mod words;
 
 pub use cut::segments;
 pub use error::SegErr;
+pub use laws::ends_by_segments;
 pub use segment::{SegEnd, Segment};
 
 #[cfg(test)]

@@ -7,7 +7,7 @@ use std::test::Fail;
 
 /// Each list, and its segments: `~` ends a tail, `%` and a line a skipped group, and a class body stands between
 /// `<<` and `>>`. A `/` begins the next line.
-const CUTS: [(&str, &str); 50] = [
+const CUTS: [(&str, &str); 51] = [
     // what a body, an initialiser and an annotation element's default keep
     (
         "int a = f ( x -> { return ; } ) , b ; void m ( ) { { } }",
@@ -26,6 +26,10 @@ const CUTS: [(&str, &str); 50] = [
         "A v ( ) default @ A ( { 1 } ) ;",
     ),
     ("X v ( ) default { } { y }", "X v ( ) default { } % 1"),
+    (
+        "default void m ( ) { } default",
+        "default void m ( ) % 1 default ~",
+    ),
     ("int [ ] a = { 1 , 2 } ;", "int [ ] a = { } ;"),
     (
         "int [ ] [ ] a = { { 1 } , { 2 } } , b = { } ;",
@@ -155,6 +159,39 @@ const WRONGS: [(&str, u32); 9] = [
     ("int x = { / ( / } ;", 3),
 ];
 
+const OPERATORS: [(&str, OpTok); 20] = [
+    ("(", OpTok::LeftParenthesis),
+    (")", OpTok::RightParenthesis),
+    ("[", OpTok::LeftBracket),
+    ("]", OpTok::RightBracket),
+    ("{", OpTok::LeftBrace),
+    ("}", OpTok::RightBrace),
+    (";", OpTok::Semicolon),
+    (",", OpTok::Comma),
+    (".", OpTok::Dot),
+    ("=", OpTok::Assign),
+    ("@", OpTok::At),
+    ("<", OpTok::Less),
+    (">", OpTok::Greater),
+    ("->", OpTok::Arrow),
+    ("*", OpTok::Star),
+    ("-", OpTok::Minus),
+    ("%", OpTok::Percent),
+    ("~", OpTok::Complement),
+    ("<<", OpTok::ShiftLeft),
+    (">>", OpTok::ShiftRight),
+];
+
+const KEYWORDS: [(&str, Kw); 7] = [
+    ("class", Kw::Class),
+    ("interface", Kw::Interface),
+    ("enum", Kw::Enum),
+    ("default", Kw::Default),
+    ("static", Kw::Static),
+    ("int", Kw::Int),
+    ("void", Kw::Void),
+];
+
 /// `count` class bodies in each other, each on a line of its own.
 fn nested(alloc: Global, count: u32) -> Result<Vec<Token>, Memory> {
     let mut tokens = Vec::new(alloc);
@@ -185,45 +222,6 @@ fn word(alloc: Global, text: &str) -> Result<TokenKind, Memory> {
     Ok(TokenKind::Word(Text::of(alloc, text.as_bytes())?))
 }
 
-fn operator(text: &[u8]) -> Option<OpTok> {
-    match text {
-        b"(" => Some(OpTok::LeftParenthesis),
-        b")" => Some(OpTok::RightParenthesis),
-        b"[" => Some(OpTok::LeftBracket),
-        b"]" => Some(OpTok::RightBracket),
-        b"{" => Some(OpTok::LeftBrace),
-        b"}" => Some(OpTok::RightBrace),
-        b";" => Some(OpTok::Semicolon),
-        b"," => Some(OpTok::Comma),
-        b"." => Some(OpTok::Dot),
-        b"=" => Some(OpTok::Assign),
-        b"@" => Some(OpTok::At),
-        b"<" => Some(OpTok::Less),
-        b">" => Some(OpTok::Greater),
-        b"->" => Some(OpTok::Arrow),
-        b"*" => Some(OpTok::Star),
-        b"-" => Some(OpTok::Minus),
-        b"%" => Some(OpTok::Percent),
-        b"~" => Some(OpTok::Complement),
-        b"<<" => Some(OpTok::ShiftLeft),
-        b">>" => Some(OpTok::ShiftRight),
-        _ => None,
-    }
-}
-
-fn keyword(text: &[u8]) -> Option<Kw> {
-    match text {
-        b"class" => Some(Kw::Class),
-        b"interface" => Some(Kw::Interface),
-        b"enum" => Some(Kw::Enum),
-        b"default" => Some(Kw::Default),
-        b"static" => Some(Kw::Static),
-        b"int" => Some(Kw::Int),
-        b"void" => Some(Kw::Void),
-        _ => None,
-    }
-}
-
 fn number(value: u32) -> TokenKind {
     TokenKind::Lit(LexLit::Int {
         value: Some(value as u64),
@@ -233,11 +231,15 @@ fn number(value: u32) -> TokenKind {
 }
 
 fn kind(alloc: Global, text: &str) -> Result<TokenKind, Memory> {
-    if let Some(operator) = operator(text.as_bytes()) {
-        return Ok(TokenKind::Op(operator));
+    for (written, operator) in OPERATORS {
+        if written == text {
+            return Ok(TokenKind::Op(operator));
+        }
     }
-    if let Some(keyword) = keyword(text.as_bytes()) {
-        return Ok(TokenKind::Keyword(keyword));
+    for (written, keyword) in KEYWORDS {
+        if written == text {
+            return Ok(TokenKind::Keyword(keyword));
+        }
     }
     match text.parse::<u32>() {
         Ok(value) => Ok(number(value)),
