@@ -8,6 +8,9 @@ mod attribute;
 mod class;
 mod value;
 
+#[cfg(test)]
+mod tests;
+
 pub use annotation::{AnnDesc, ElemPair, ElemValue};
 pub use attribute::{Attr, ComponentDesc, InnerEntry, ParamEntry};
 pub use class::{ClassDesc, FieldDesc, MethodDesc};

@@ -3,4 +3,7 @@
 
 mod used;
 
+#[cfg(test)]
+mod tests;
+
 pub use used::used_paths;

@@ -4,4 +4,7 @@
 mod job;
 mod options;
 
+#[cfg(test)]
+mod tests;
+
 pub use job::{Job, job_of};

@@ -6,6 +6,9 @@ mod keyword;
 mod operator;
 mod token;
 
+#[cfg(test)]
+mod tests;
+
 pub use keyword::Kw;
 pub use operator::OpTok;
 pub use token::{LexLit, Token, TokenKind};

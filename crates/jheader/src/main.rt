@@ -10,6 +10,9 @@ mod stream;
 mod strip;
 mod tell;
 
+#[cfg(test)]
+mod tests;
+
 use hdr_core::{DirFiles, DirOuts, NoGate, StdSink};
 use std::env;
 use std::io;
