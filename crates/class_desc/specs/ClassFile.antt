@@ -145,7 +145,7 @@ pub record SpellsOver (d : ClassDesc) (bytes : List ℕ) (pool : List Entry) : T
   pub entries : AllByRecursion EntryFits pool
   pub pool_count : length pool + 1 < 2 ^ 16
   pub minor : d.minor < 2 ^ 16
-  -- Java 1.1 to Java SE 17
+  -- JDK 1.0.2 to Java SE 17 (JVMS table 4.1-A)
   pub major : (45 ≤ d.major) × (d.major ≤ 61)
   -- without MODULE, the highest bit
   pub flags : d.flags < 2 ^ 15

@@ -13,7 +13,7 @@ is_private flags = not (bit_and flags 0x0002 == 0)
 abbrev pub stays_field : FieldDesc → Bool
 stays_field f = not (is_private f.flags)
 
--- the class initialiser goes by its name alone (JVMS 2.9.2)
+-- the class initialiser is known by its name alone: JVMS 2.9.2 asks for more, but no other method may have that name (JVMS 4.6)
 abbrev pub stays_method : MethodDesc → Bool
 stays_method m = not (is_private m.flags) && not (is_text m.name (codes "<clinit>"))
 

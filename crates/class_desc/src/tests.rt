@@ -6,6 +6,7 @@ use crate::{
 use hdr_core::{List, Memory, Text};
 use sqlite_items::Boxed;
 use std::alloc::Global;
+use std::process::Abort;
 use std::test::Fail;
 
 fn text(alloc: Global, text: &[u8]) -> Result<Text, Memory> {
@@ -176,7 +177,7 @@ fn class(alloc: Global) -> Result<ClassDesc, Memory> {
 }
 
 /// Checks that both are told alike, and not in nothing.
-fn check_alike(rt: &HostRuntime, told: String, copied: String) -> Result<(), Fail> {
+fn check_alike(rt: &impl Abort, told: String, copied: String) -> Result<(), Fail> {
     assert!(rt; !told.is_empty());
     assert_eq!(rt; told.as_str(), copied.as_str());
     Ok(())

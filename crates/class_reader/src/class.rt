@@ -141,7 +141,7 @@ fn class_from(alloc: Global, bytes: &[u8]) -> Result<ClassDesc, ReadErr>
     }
 }
 
-/// Reads a class file (JVMS 4.1) of Java 1.1 to Java SE 17.
+/// Reads a class file (JVMS 4.1) of JDK 1.0.2 to Java SE 17.
 ///
 /// A fault comes just where the bytes spell no description, and is the first check that fails.
 pub fn read_class(alloc: Global, bytes: &[u8]) -> Result<ClassDesc, ReadErr>

@@ -8,7 +8,7 @@ use Rattle.jheader.specs.declared.status.Status.{Status}
 use Rattle.jheader.specs.declared.status.Status.TheVariants.{Done, Diagnosed, Usage, ReadFault, WriteFault, Memory}
 use Rattle.jheader.specs.Outcome.{outcome}
 use Rattle.jheader.specs.Stops.{IsPathOfJob}
-use Rattle.jheader.specs.Tells.{TellsLine, LineTellsWithin, Stood, fault_line, with_files}
+use Rattle.jheader.specs.Tells.{TellsLine, LineTellsWithin, Stood, NoneRose, fault_line, with_files}
 use Rattle.jheader.specs.Endings.{Outside, Ends, EndsInUsage, EndsInReadFault, EndsDiagnosed, EndsInWriteFault, EndsDone}
 use Rattle.jheader.proofs.Options.{if_some, from_some}
 
@@ -21,7 +21,7 @@ above : (before after : ℕ) → before < 2 ^ 64 - 1 → Rose before after → b
 above before after few rose = omega arith
 
 within : (before after : ℕ) (told told' : Option (List ℕ)) (line : List ℕ) → before < 2 ^ 64 - 1 → TellsLine before after told told' line → LineTellsWithin before after told told' line
-within before after told told' line few t = (t.front, λ same. t.whole (λ rose. let lt = above before after few rose in omega arith))
+within before after told told' line few t = (t.front, λ still. t.whole (λ rose. still (above before after few rose)))
 
 five : {A B C D E P : Type 0} → A ⊎ (B ⊎ (C ⊎ (D ⊎ E))) → (A → P) → (B → P) → (C → P) → (D → P) → (E → P) → P
 five e a b c d m = ⊎_elim a (λ e. ⊎_elim b (λ e. ⊎_elim c (λ e. ⊎_elim d m e) e) e) e
@@ -39,6 +39,22 @@ module _ (held : Option (List File)) (s : Status) (before after : Outside) where
       absurd (five e
       (λ r. let h : ReadFault ≡ Usage = sym r.is ∙ u in cc) (λ d. let h : Diagnosed ≡ Usage = sym d.is ∙ u in cc)
       (λ w. let h : WriteFault ≡ Usage = sym w.is ∙ u in cc) (λ d. let h : Done ≡ Usage = sym d.is ∙ u in cc) (λ m. let h : Memory ≡ Usage = sym m ∙ u in cc))
+
+  pub usage_alone : (j : Job) → Ends j held s before after → s ≡ Usage → (after.files ≡ before.files) × (after.outs ≡ before.outs)
+  usage_alone (Archive w) e u = ⊎_elim (λ x. (x.files_stood, x.outs_stood)) (λ m. absurd (let h : Memory ≡ Usage = sym m ∙ u in cc)) e
+  usage_alone NoJob e u = ⊎_elim (λ x. (x.files_stood, x.outs_stood)) (λ m. absurd (let h : Memory ≡ Usage = sym m ∙ u in cc)) e
+  usage_alone (Ijar i o) e u =
+      absurd (five e
+      (λ r. let h : ReadFault ≡ Usage = sym r.is ∙ u in cc) (λ d. let h : Diagnosed ≡ Usage = sym d.is ∙ u in cc)
+      (λ w. let h : WriteFault ≡ Usage = sym w.is ∙ u in cc) (λ d. let h : Done ≡ Usage = sym d.is ∙ u in cc) (λ m. let h : Memory ≡ Usage = sym m ∙ u in cc))
+
+  pub read_fault_alone : (j : Job) → Ends j held s before after → s ≡ ReadFault → after.outs ≡ before.outs
+  read_fault_alone (Archive w) e r = absurd (⊎_elim (λ u. let h : Usage ≡ ReadFault = sym u.is ∙ r in cc) (λ m. let h : Memory ≡ ReadFault = sym m ∙ r in cc) e)
+  read_fault_alone NoJob e r = absurd (⊎_elim (λ u. let h : Usage ≡ ReadFault = sym u.is ∙ r in cc) (λ m. let h : Memory ≡ ReadFault = sym m ∙ r in cc) e)
+  read_fault_alone (Ijar i o) e r =
+      five e (λ x. x.outs_stood)
+      (λ d. absurd (let h : Diagnosed ≡ ReadFault = sym d.is ∙ r in cc)) (λ w. absurd (let h : WriteFault ≡ ReadFault = sym w.is ∙ r in cc))
+      (λ d. absurd (let h : Done ≡ ReadFault = sym d.is ∙ r in cc)) (λ m. absurd (let h : Memory ≡ ReadFault = sym m ∙ r in cc))
 
   module _ (few : AreBelow before) where
     pub usage_told : (j : Job) → Ends j held s before after → s ≡ Usage → IfSome (usage_line j) (LineTellsWithin before.err after.err before.told after.told)
@@ -77,12 +93,12 @@ module _ (held : Option (List File)) (s : Status) (before after : Outside) where
   files_first (Ijar i o) e lt =
       five e (λ r. inl r.is) (λ d. absurd (let same = d.files_stood in omega arith)) (λ w. absurd (let same = w.files_stood in omega arith)) (λ d. absurd (let same = d.files_stood in omega arith)) (λ m. inr m)
 
-  pub others_next : AreBelow before → (j : Job) → Ends j held s before after → usage_line j ≡ None → after.files ≡ before.files → (before.outs < after.outs) ⊎ (before.err < after.err) → (s ≡ WriteFault) ⊎ (s ≡ Memory)
-  others_next few (Archive w) e n same lt = absurd cc
-  others_next few NoJob e n same lt = absurd cc
-  others_next few (Ijar i o) e n same lt =
+  pub others_next : AreBelow before → (j : Job) → Ends j held s before after → usage_line j ≡ None → (before.files < after.files → ⊥) → (before.outs < after.outs) ⊎ (before.err < after.err) → (s ≡ WriteFault) ⊎ (s ≡ Memory)
+  others_next few (Archive w) e n still lt = absurd cc
+  others_next few NoJob e n still lt = absurd cc
+  others_next few (Ijar i o) e n still lt =
       five e
-      (λ r. absurd (let up = above before.files after.files few.files r.rose in omega arith))
+      (λ r. absurd (still (above before.files after.files few.files r.rose)))
       (λ d. absurd (⊎_elim (λ up. let stood = d.outs_stood in omega arith) (λ up. let stood = d.err_stood in omega arith) lt))
       (λ w. inl w.is)
       (λ d. absurd (⊎_elim (λ up. let stood = d.outs_stood in omega arith) (λ up. let stood = d.err_stood in omega arith) lt))
@@ -111,25 +127,23 @@ module _ (held : Option (List File)) (s : Status) (before after : Outside) where
       five e (λ r. absurd (let h : ReadFault ≡ Done = sym r.is ∙ d in cc)) (λ x. absurd (let h : Diagnosed ≡ Done = sym x.is ∙ d in cc))
       (λ w. absurd (let h : WriteFault ≡ Done = sym w.is ∙ d in cc)) (λ x. x.silent) (λ m. absurd (let h : Memory ≡ Done = sym m ∙ d in cc))
 
-  pub complete : AreBelow before → (j : Job) → Ends j held s before after → usage_line j ≡ None → Stood before.files after.files before.outs after.outs before.err after.err → (s ≡ Done) ⊎ ((s ≡ Diagnosed) ⊎ (s ≡ Memory))
-  complete few (Archive w) e n same = absurd cc
-  complete few NoJob e n same = absurd cc
-  complete few (Ijar i o) e n same =
+  pub complete : AreBelow before → (j : Job) → Ends j held s before after → usage_line j ≡ None → NoneRose before.files after.files before.outs after.outs before.err after.err → (s ≡ Done) ⊎ ((s ≡ Diagnosed) ⊎ (s ≡ Memory))
+  complete few (Archive w) e n still = absurd cc
+  complete few NoJob e n still = absurd cc
+  complete few (Ijar i o) e n still =
       five e
-      (λ r. absurd (let up = above before.files after.files few.files r.rose in let stood : after.files ≡ before.files = same.0 in omega arith))
+      (λ r. absurd (still.0 (above before.files after.files few.files r.rose)))
       (λ d. inr (inl d.is))
-      (λ w. absurd (⊎_elim
-      (λ r. let up = above before.outs after.outs few.outs r in let stood : after.outs ≡ before.outs = same.1 in omega arith)
-      (λ r. let up = above before.err after.err few.err r in let stood : after.err ≡ before.err = same.2 in omega arith) w.rose))
+      (λ w. absurd (⊎_elim (λ r. still.1 (above before.outs after.outs few.outs r)) (λ r. still.2 (above before.err after.err few.err r)) w.rose))
       (λ d. inl d.is)
       (λ m. inr (inr m))
 
-  pub exact : AreBelow before → (j : Job) → Ends j held s before after → usage_line j ≡ None → Stood before.files after.files before.outs after.outs before.err after.err → IfSome held (λ files. (s ≡ (outcome j files).status) ⊎ (s ≡ Memory))
-  exact few j e n same =
+  pub exact : AreBelow before → (j : Job) → Ends j held s before after → usage_line j ≡ None → NoneRose before.files after.files before.outs after.outs before.err after.err → IfSome held (λ files. (s ≡ (outcome j files).status) ⊎ (s ≡ Memory))
+  exact few j e n still =
       if_some held _ (λ files h.
           ⊎_elim (λ d. inl (d ∙ sym (from_some held (λ fs. ((outcome j fs).status ≡ Done) × (after.written ≡ with_files before.written (outcome j fs).files)) files (done j e d).1 h).0))
           (λ x. ⊎_elim (λ d. inl (d ∙ sym (from_some held (λ fs. ((outcome j fs).status ≡ Diagnosed) × (after.told ≡ grown before.told (outcome j fs).err)) files (diagnosed j e d).1 h).0)) (λ m. inr m) x)
-          (complete few j e n same))
+          (complete few j e n still))
 
   pub unwritten : (j : Job) → Ends j held s before after → (s ≡ Usage) ⊎ ((s ≡ ReadFault) ⊎ (s ≡ Diagnosed)) → after.written ≡ before.written
   unwritten (Archive w) e h = ⊎_elim (λ u. u.unwritten) (λ m. absurd (memory_not m h)) e

@@ -40,7 +40,7 @@ abbrev pub unspelled_of : Numbered → Result ClassDesc ClassFault → List Diag
 unspelled_of n (Ok d) = []
 unspelled_of n (Err fault) = diag_at n.0 n.1.0 F0 [] ∷ []
 
--- each file that is the spelling of no class
+-- Each file that spells no class. Reading from front to back finds a class just where the bytes spell one: class_reader's law `reads_what_is_spelled`.
 abbrev pub syntax_phase : List File → List Diag
 syntax_phase files = flat_map (λ n. unspelled_of n (class_of n.1.1)) (numbered files)
 

@@ -1,5 +1,5 @@
 -- What a run tells and writes. Counts and texts stand before and after.
-use Rattle.std.specs.Prelude.{◌≡◌, ◌⊎◌, ℕ, List, ◌++◌, codes, string_bytes, Option, Some, None}
+use Rattle.std.specs.Prelude.{◌≡◌, ◌⊎◌, ℕ, ◌<◌, List, ◌++◌, codes, string_bytes, Option, Some, None}
 use Rattle.hdr_core.specs.Causes.{Rose, grown, GrewByFront}
 use Rattle.hdr_core.specs.Diagnostics.{printed}
 use Rattle.hdr_core.specs.Held.{with_file}
@@ -20,11 +20,15 @@ pub record TellsLine (faults faults' : ℕ) (told told' : Option (List ℕ)) (li
 
 -- a line is told, or where the count of faults rose a front of it
 abbrev pub LineTellsWithin : ℕ → ℕ → Option (List ℕ) → Option (List ℕ) → List ℕ → Type 0
-LineTellsWithin faults faults' told told' line = GrewByFront told told' line × (faults' ≡ faults → told' ≡ grown told line)
+LineTellsWithin faults faults' told told' line = GrewByFront told told' line × ((faults < faults' → ⊥) → told' ≡ grown told line)
 
--- no count of faults rose
+-- each count of faults is what it was
 abbrev pub Stood : ℕ → ℕ → ℕ → ℕ → ℕ → ℕ → Type 0
 Stood files files' outs outs' err err' = (files' ≡ files) × (outs' ≡ outs) × (err' ≡ err)
+
+-- no count of faults rose
+abbrev pub NoneRose : ℕ → ℕ → ℕ → ℕ → ℕ → ℕ → Type 0
+NoneRose files files' outs outs' err err' = (files < files' → ⊥) × (outs < outs' → ⊥) × (err < err' → ⊥)
 
 -- the line is told under its status, or memory ran out
 abbrev pub LineTold : Status → Status → ℕ → ℕ → Option (List ℕ) → Option (List ℕ) → List ℕ → Type 0

@@ -8,7 +8,7 @@ ghost use Rattle.jheader.specs.Endings.{Ends};
 ghost use Rattle.jheader.specs.Outcome.{outcome, written as written_of};
 ghost use Rattle.jheader.specs.Phases.{diagnostics};
 ghost use Rattle.jheader.specs.Stops.{IsFilled, StopsOnly, FaultRises, IsRootOrUsed, IsPathOfJob, held_file};
-ghost use Rattle.jheader.specs.Tells.{LineTellsWithin, FilePut, Stood, fault_line, with_files};
+ghost use Rattle.jheader.specs.Tells.{LineTellsWithin, FilePut, Stood, NoneRose, fault_line, with_files};
 
 use crate::ijar::strip_file;
 use crate::read::read_sole;
@@ -105,14 +105,16 @@ pub fn run<R: Threads + Sync, F: Files, O: Outs, S: Sink, G: Gate>(
     ensures usage { IsSome (usage_line (job (map string_bytes words.now))) → (result ≡ Status.Usage) ⊎ (result ≡ Status.Memory) }
     ensures usage_only { result ≡ Status.Usage → IsSome (usage_line (job (map string_bytes words.now))) }
     ensures usage_told { result ≡ Status.Usage → IfSome (usage_line (job (map string_bytes words.now))) (LineTellsWithin (S.faults err.old) (S.faults err.new) (S.told err.old) (S.told err.new)) }
+    ensures usage_alone { result ≡ Status.Usage → (F.faults files.new ≡ F.faults files.old) × (O.faults outs.new ≡ O.faults outs.old) }
 
     // A fault is answered only where a count of faults rose: of the files first, and then of the others.
     ensures read_fault { result ≡ Status.ReadFault → F.faults files.old < F.faults files.new }
     ensures read_fault_told { result ≡ Status.ReadFault → (path : List ℕ) × LineTellsWithin (S.faults err.old) (S.faults err.new) (S.told err.old) (S.told err.new) (fault_line path)
         × IfSome (F.held files.old) (λ held. IsPathOfJob held (job (map string_bytes words.now)) path) }
+    ensures read_fault_alone { result ≡ Status.ReadFault → O.faults outs.new ≡ O.faults outs.old }
     ensures write_fault { result ≡ Status.WriteFault → (O.faults outs.old < O.faults outs.new) ⊎ (S.faults err.old < S.faults err.new) }
     ensures files_first { F.faults files.old < F.faults files.new → (result ≡ Status.ReadFault) ⊎ (result ≡ Status.Memory) }
-    ensures others_next { usage_line (job (map string_bytes words.now)) ≡ None → F.faults files.new ≡ F.faults files.old →
+    ensures others_next { usage_line (job (map string_bytes words.now)) ≡ None → (F.faults files.old < F.faults files.new → ⊥) →
         (O.faults outs.old < O.faults outs.new) ⊎ (S.faults err.old < S.faults err.new) → (result ≡ Status.WriteFault) ⊎ (result ≡ Status.Memory) }
 
     // On Diagnosed and Done no count rose, and the outcome of the job is what was told and written.
@@ -123,9 +125,9 @@ pub fn run<R: Threads + Sync, F: Files, O: Outs, S: Sink, G: Gate>(
     ensures done_silent { result ≡ Status.Done → S.told err.new ≡ S.told err.old }
 
     // Where no count rises, a job is done or diagnosed as its outcome says.
-    ensures complete { usage_line (job (map string_bytes words.now)) ≡ None → Stood (F.faults files.old) (F.faults files.new) (O.faults outs.old) (O.faults outs.new) (S.faults err.old) (S.faults err.new) →
+    ensures complete { usage_line (job (map string_bytes words.now)) ≡ None → NoneRose (F.faults files.old) (F.faults files.new) (O.faults outs.old) (O.faults outs.new) (S.faults err.old) (S.faults err.new) →
         (result ≡ Status.Done) ⊎ ((result ≡ Status.Diagnosed) ⊎ (result ≡ Status.Memory)) }
-    ensures exact { usage_line (job (map string_bytes words.now)) ≡ None → Stood (F.faults files.old) (F.faults files.new) (O.faults outs.old) (O.faults outs.new) (S.faults err.old) (S.faults err.new) →
+    ensures exact { usage_line (job (map string_bytes words.now)) ≡ None → NoneRose (F.faults files.old) (F.faults files.new) (O.faults outs.old) (O.faults outs.new) (S.faults err.old) (S.faults err.new) →
         IfSome (F.held files.old) (λ held. (result ≡ (outcome (job (map string_bytes words.now)) held).status) ⊎ (result ≡ Status.Memory)) }
 
     // No file is written on Usage, ReadFault and Diagnosed, and nothing is ever told to out.

@@ -7,7 +7,9 @@ use hdr_core::{
     HeldFile, MemFiles, MemOuts, MemSink, NoGate, SureFiles, SureOuts, SureSink,
 };
 use std::alloc::Global;
+use std::process::Abort;
 use std::test::Fail;
+use std::thread::Threads;
 
 /// The public class A of the superclass java/lang/Object, its texts behind the classes that name them.
 const PLAIN: &[u8] = b"\xca\xfe\xba\xbe\0\0\0\x3d\0\x05\
@@ -62,8 +64,9 @@ fn one_file(alloc: Global, path: &str, bytes: &[u8]) -> Result<Vec<HeldFile>, Fa
 }
 
 /// A run over objects that never fail answers no fault.
-fn run_sure(
-    rt: &HostRuntime,
+fn run_sure<R: Threads + Sync>(
+    rt: &R,
+    alloc: Global,
     words: &[String],
     files: Vec<HeldFile>,
     outs: &mut SureOuts,
@@ -71,20 +74,23 @@ fn run_sure(
 ) -> Status
     ensures { (result ≢ Status.ReadFault) × (result ≢ Status.WriteFault) }
 {
-    let alloc = rt.alloc();
     let mut files = SureFiles::of(files);
     let mut out = SureSink::of(alloc);
     run(rt, alloc, words, &mut files, outs, &mut out, err, &NoGate)
 }
 
 /// Runs the job on in/A.class of these bytes.
-fn check_done(rt: &HostRuntime, bytes: &[u8], stripped: &[u8]) -> Result<(), Fail> {
-    let alloc = rt.alloc();
+fn check_done<R: Abort + Threads + Sync>(
+    rt: &R,
+    alloc: Global,
+    bytes: &[u8],
+    stripped: &[u8],
+) -> Result<(), Fail> {
     let words = words_of(alloc, JOB)?;
     let mut outs = SureOuts::of(alloc);
     let mut err = SureSink::of(alloc);
     let files = one_file(alloc, "in/A.class", bytes)?;
-    let status = run_sure(rt, &words, files, &mut outs, &mut err);
+    let status = run_sure(rt, alloc, &words, files, &mut outs, &mut err);
     assert_eq!(rt; status, Status::Done);
     assert_eq!(rt; outs.written().len(), 1);
     assert_eq!(rt; outs.written()[0].path.as_str(), "out/A.class");
@@ -95,26 +101,26 @@ fn check_done(rt: &HostRuntime, bytes: &[u8], stripped: &[u8]) -> Result<(), Fai
 
 #[test]
 fn strips_class_files(rt: HostRuntime) -> Result<(), Fail> {
-    check_done(&rt, PLAIN, PLAIN_STRIPPED)?;
-    check_done(&rt, PLAIN_STRIPPED, PLAIN_STRIPPED)?;
-    check_done(&rt, MEMBERS, MEMBERS_STRIPPED)
+    check_done(&rt, rt.alloc(), PLAIN, PLAIN_STRIPPED)?;
+    check_done(&rt, rt.alloc(), PLAIN_STRIPPED, PLAIN_STRIPPED)?;
+    check_done(&rt, rt.alloc(), MEMBERS, MEMBERS_STRIPPED)
 }
 
 /// Runs words on one file, and checks what is told. Nothing is written.
-fn check_told(
-    rt: &HostRuntime,
+fn check_told<R: Abort + Threads + Sync>(
+    rt: &R,
+    alloc: Global,
     line: &str,
     file: HeldFile,
     status: Status,
     told: &str,
 ) -> Result<(), Fail> {
-    let alloc = rt.alloc();
     let words = words_of(alloc, line)?;
     let mut files = Vec::new(alloc);
     files.push(file)?;
     let mut outs = SureOuts::of(alloc);
     let mut err = SureSink::of(alloc);
-    let got = run_sure(rt, &words, files, &mut outs, &mut err);
+    let got = run_sure(rt, alloc, &words, files, &mut outs, &mut err);
     assert_eq!(rt; got, status);
     assert_eq!(rt; err.told(), told.as_bytes());
     assert!(rt; outs.written().is_empty());
@@ -134,7 +140,7 @@ fn tells_words_that_are_no_job(rt: HostRuntime) -> Result<(), Fail> {
     ];
     for (line, told) in rows {
         let input = file(rt.alloc(), "in/A.class", PLAIN)?;
-        check_told(&rt, line, input, Status::Usage, told)?;
+        check_told(&rt, rt.alloc(), line, input, Status::Usage, told)?;
     }
     Ok(())
 }
@@ -144,11 +150,11 @@ fn tells_files_that_are_no_plain_class(rt: HostRuntime) -> Result<(), Fail> {
     let told = "in/A.class:0: F0 not read in this stage\n";
     for length in [0, 1, 2, 3, 4, 5, 30, 40, 52] {
         let input = file(rt.alloc(), "in/A.class", &PLAIN[..length])?;
-        check_told(&rt, JOB, input, Status::Diagnosed, told)?;
+        check_told(&rt, rt.alloc(), JOB, input, Status::Diagnosed, told)?;
     }
     let mut longer = file(rt.alloc(), "in/A.class", PLAIN)?;
     longer.bytes.push(0)?;
-    check_told(&rt, JOB, longer, Status::Diagnosed, told)
+    check_told(&rt, rt.alloc(), JOB, longer, Status::Diagnosed, told)
 }
 
 #[test]
@@ -162,7 +168,7 @@ fn tells_inputs_of_other_than_one_class(rt: HostRuntime) -> Result<(), Fail> {
     ];
     for path in paths {
         let input = file(rt.alloc(), path, PLAIN)?;
-        check_told(&rt, JOB, input, Status::Diagnosed, told)?;
+        check_told(&rt, rt.alloc(), JOB, input, Status::Diagnosed, told)?;
     }
     Ok(())
 }
@@ -176,12 +182,13 @@ fn tells_files_that_are_too_long(rt: HostRuntime) -> Result<(), Fail> {
     for (length, told) in rows {
         let mut input = file(rt.alloc(), "in/A.class", PLAIN)?;
         input.bytes.resize(length, 0)?;
-        check_told(&rt, JOB, input, Status::Diagnosed, told)?;
+        check_told(&rt, rt.alloc(), JOB, input, Status::Diagnosed, told)?;
     }
     Ok(())
 }
 
 /// The calls that fail, and what comes of it.
+#[derive(Drop)]
 struct Fault<'a> {
     files: Option<u32>,
     outs: Option<u32>,
@@ -198,8 +205,11 @@ fn list_of(alloc: Global, call: Option<u32>) -> Result<Vec<u32>, Fail> {
     Ok(calls)
 }
 
-fn check_fault(rt: &HostRuntime, fault: &Fault<'_>) -> Result<(), Fail> {
-    let alloc = rt.alloc();
+fn check_fault<R: Abort + Threads + Sync>(
+    rt: &R,
+    alloc: Global,
+    fault: &Fault<'_>,
+) -> Result<(), Fail> {
     let words = words_of(alloc, JOB)?;
     let held = one_file(alloc, "in/A.class", PLAIN)?;
     let mut files = MemFiles::of(held, list_of(alloc, fault.files)?);
@@ -254,7 +264,7 @@ fn answers_faults(rt: HostRuntime) -> Result<(), Fail> {
         told: "",
     };
     for fault in &[done, listing, reading, telling, putting] {
-        check_fault(&rt, fault)?;
+        check_fault(&rt, rt.alloc(), fault)?;
     }
     Ok(())
 }

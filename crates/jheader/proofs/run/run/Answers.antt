@@ -2,7 +2,7 @@ use Rattle.std.proofs.Common.{map, refl}
 use Rattle.std.specs.Prelude.{string_bytes}
 use Rattle.command_words.specs.Words.{job}
 use Rattle.jheader.specs.Endings.{Outside}
-use Rattle.jheader.proofs.Ends.{AreBelow, usage, usage_only, usage_told, read_fault, read_fault_told, write_fault, files_first, others_next, diagnosed, done, done_silent, complete, exact, unwritten}
+use Rattle.jheader.proofs.Ends.{AreBelow, usage, usage_only, usage_told, usage_alone, read_fault, read_fault_told, read_fault_alone, write_fault, files_first, others_next, diagnosed, done, done_silent, complete, exact, unwritten}
 use Rattle.jheader.proofs.run.run.Goals as goal
 
 pub returns : goal.returns
@@ -21,8 +21,10 @@ returns g c =
       usage = usage held s before after j e;
       usage_only = usage_only held s before after j e;
       usage_told = usage_told held s before after few j e;
+      usage_alone = usage_alone held s before after j e;
       read_fault = read_fault held s before after few j e;
       read_fault_told = read_fault_told held s before after few j e;
+      read_fault_alone = read_fault_alone held s before after j e;
       write_fault = write_fault held s before after few j e;
       files_first = files_first held s before after j e;
       others_next = others_next held s before after few j e;
