@@ -26,7 +26,8 @@ abbrev pub need_refusal : Need → Option PoolErr
 need_refusal (TextNeed text) = text_refusal text
 need_refusal (ClassNeed name) = None
 
--- the parts of the first pass, for the functions that check them
+-- the texts of a superclass, of a field and of a method
+
 abbrev pub super_refusal : Option (List ℕ) → Option PoolErr
 super_refusal None = None
 super_refusal (Some name) = text_refusal name

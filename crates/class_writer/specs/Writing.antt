@@ -29,9 +29,11 @@ pub record Writes (needs : List Need) (bytes : List Need → List ℕ) (old new 
 abbrev pub number_bytes : Need → List Need → List ℕ
 number_bytes need pool = to_be_bytes w16 (number_in pool need)
 
+-- the number of the class of this name
 abbrev pub class_number_bytes : List Need → List ℕ → List ℕ
 class_number_bytes pool name = number_bytes (ClassNeed name) pool
 
+-- the number of the superclass, or 0
 abbrev pub super_bytes : Option (List ℕ) → List Need → List ℕ
 super_bytes super pool = to_be_bytes w16 (super_number pool super)
 

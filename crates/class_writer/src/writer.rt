@@ -62,6 +62,7 @@ impl<'a> ClassWriter<'a> {
         }
     }
 
+    /// Writes a number that needs nothing: flags or a count.
     pub fn number(&mut self, number: usize) -> Result<(), Memory>
         ensures { OnOk result (Writes [] (λ _. to_be_bytes w16 number) self.old self.new) }
     {
