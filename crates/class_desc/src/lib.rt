@@ -6,10 +6,9 @@
 mod annotation;
 mod attribute;
 mod class;
-mod value;
-
 #[cfg(test)]
 mod tests;
+mod value;
 
 pub use annotation::{AnnDesc, ElemPair, ElemValue};
 pub use attribute::{Attr, ComponentDesc, InnerEntry, ParamEntry};

@@ -1,7 +1,7 @@
 //! One value of each type, and its copy.
 use crate::{
-    AnnDesc, Attr, ClassDesc, ComponentDesc, ElemPair, ElemValue, FieldDesc, InnerEntry, MethodDesc,
-    ParamEntry, Value,
+    AnnDesc, Attr, ClassDesc, ComponentDesc, ElemPair, ElemValue, FieldDesc, InnerEntry,
+    MethodDesc, ParamEntry, Value,
 };
 use hdr_core::{List, Memory, Text};
 use sqlite_items::Boxed;
@@ -188,7 +188,11 @@ fn copies_a_class_with_all_that_it_holds(rt: HostRuntime) -> Result<(), Fail> {
     let alloc = rt.alloc();
     let class = class(alloc)?;
     let copy = class.copy(alloc)?;
-    check_alike(&rt, format!(in alloc; "{class:?}")?, format!(in alloc; "{copy:?}")?)
+    check_alike(
+        &rt,
+        format!(in alloc; "{class:?}")?,
+        format!(in alloc; "{copy:?}")?,
+    )
 }
 
 #[test]
@@ -196,14 +200,30 @@ fn copies_each_part(rt: HostRuntime) -> Result<(), Fail> {
     let alloc = rt.alloc();
     let name = text(alloc, b"name")?;
     let copy = name.copy(alloc)?;
-    check_alike(&rt, format!(in alloc; "{name:?}")?, format!(in alloc; "{copy:?}")?)?;
+    check_alike(
+        &rt,
+        format!(in alloc; "{name:?}")?,
+        format!(in alloc; "{copy:?}")?,
+    )?;
     let annotation = annotation(alloc)?;
     let copy = annotation.copy(alloc)?;
-    check_alike(&rt, format!(in alloc; "{annotation:?}")?, format!(in alloc; "{copy:?}")?)?;
+    check_alike(
+        &rt,
+        format!(in alloc; "{annotation:?}")?,
+        format!(in alloc; "{copy:?}")?,
+    )?;
     let component = component(alloc)?;
     let copy = component.copy(alloc)?;
-    check_alike(&rt, format!(in alloc; "{component:?}")?, format!(in alloc; "{copy:?}")?)?;
+    check_alike(
+        &rt,
+        format!(in alloc; "{component:?}")?,
+        format!(in alloc; "{copy:?}")?,
+    )?;
     let value = constants(alloc)?;
     let copy = value.copy(alloc)?;
-    check_alike(&rt, format!(in alloc; "{value:?}")?, format!(in alloc; "{copy:?}")?)
+    check_alike(
+        &rt,
+        format!(in alloc; "{value:?}")?,
+        format!(in alloc; "{copy:?}")?,
+    )
 }

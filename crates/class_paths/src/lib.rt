@@ -1,9 +1,8 @@
 //! Which files below a root a job uses, and in which order.
 #![tactic(auto)]
 
-mod used;
-
 #[cfg(test)]
 mod tests;
+mod used;
 
 pub use used::used_paths;

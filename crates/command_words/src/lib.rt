@@ -3,7 +3,6 @@
 
 mod job;
 mod options;
-
 #[cfg(test)]
 mod tests;
 

@@ -4,10 +4,9 @@
 mod copy;
 mod keyword;
 mod operator;
-mod token;
-
 #[cfg(test)]
 mod tests;
+mod token;
 
 pub use keyword::Kw;
 pub use operator::OpTok;

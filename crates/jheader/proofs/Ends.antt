@@ -141,9 +141,9 @@ module _ (held : Option (List File)) (s : Status) (before after : Outside) where
   pub exact : AreBelow before → (j : Job) → Ends j held s before after → usage_line j ≡ None → NoneRose before.files after.files before.outs after.outs before.err after.err → IfSome held (λ files. (s ≡ (outcome j files).status) ⊎ (s ≡ Memory))
   exact few j e n still =
       if_some held _ (λ files h.
-          ⊎_elim (λ d. inl (d ∙ sym (from_some held (λ fs. ((outcome j fs).status ≡ Done) × (after.written ≡ with_files before.written (outcome j fs).files)) files (done j e d).1 h).0))
-          (λ x. ⊎_elim (λ d. inl (d ∙ sym (from_some held (λ fs. ((outcome j fs).status ≡ Diagnosed) × (after.told ≡ grown before.told (outcome j fs).err)) files (diagnosed j e d).1 h).0)) (λ m. inr m) x)
-          (complete few j e n still))
+      ⊎_elim (λ d. inl (d ∙ sym (from_some held (λ fs. ((outcome j fs).status ≡ Done) × (after.written ≡ with_files before.written (outcome j fs).files)) files (done j e d).1 h).0))
+      (λ x. ⊎_elim (λ d. inl (d ∙ sym (from_some held (λ fs. ((outcome j fs).status ≡ Diagnosed) × (after.told ≡ grown before.told (outcome j fs).err)) files (diagnosed j e d).1 h).0)) (λ m. inr m) x)
+      (complete few j e n still))
 
   pub unwritten : (j : Job) → Ends j held s before after → (s ≡ Usage) ⊎ ((s ≡ ReadFault) ⊎ (s ≡ Diagnosed)) → after.written ≡ before.written
   unwritten (Archive w) e h = ⊎_elim (λ u. u.unwritten) (λ m. absurd (memory_not m h)) e
@@ -158,7 +158,9 @@ module _ (held : Option (List File)) (s : Status) (before after : Outside) where
     where
       memory_not : s ≡ Memory → (s ≡ Usage) ⊎ ((s ≡ ReadFault) ⊎ (s ≡ Diagnosed)) → ⊥
       memory_not m h = ⊎_elim (λ u. let k : Memory ≡ Usage = sym m ∙ u in cc) (λ h. ⊎_elim (λ u. let k : Memory ≡ ReadFault = sym m ∙ u in cc) (λ u. let k : Memory ≡ Diagnosed = sym m ∙ u in cc) h) h
+
       fault_not : s ≡ WriteFault → (s ≡ Usage) ⊎ ((s ≡ ReadFault) ⊎ (s ≡ Diagnosed)) → ⊥
       fault_not m h = ⊎_elim (λ u. let k : WriteFault ≡ Usage = sym m ∙ u in cc) (λ h. ⊎_elim (λ u. let k : WriteFault ≡ ReadFault = sym m ∙ u in cc) (λ u. let k : WriteFault ≡ Diagnosed = sym m ∙ u in cc) h) h
+
       done_not : s ≡ Done → (s ≡ Usage) ⊎ ((s ≡ ReadFault) ⊎ (s ≡ Diagnosed)) → ⊥
       done_not m h = ⊎_elim (λ u. let k : Done ≡ Usage = sym m ∙ u in cc) (λ h. ⊎_elim (λ u. let k : Done ≡ ReadFault = sym m ∙ u in cc) (λ u. let k : Done ≡ Diagnosed = sym m ∙ u in cc) h) h

@@ -34,7 +34,11 @@ module _ (input output : List ℕ) (held : Option (List File)) (s : Status) (bef
       ⊎_elim (λ l. inl (record { is = l.0; rose = rose; outs_stood = outs; unwritten = unwritten; path = string_bytes path; named = named; line_told = l.1 })) (λ m. inr (inr (inr (inr m)))) t
   stopped (stop.Diagnosed list) stood diags t =
       ⊎_elim (λ d. inr (inl (record {
-        is = d.0; files_stood = stood; outs_stood = outs; err_stood = d.1; unwritten = unwritten;
+        is = d.0;
+        files_stood = stood;
+        outs_stood = outs;
+        err_stood = d.1;
+        unwritten = unwritten;
         outcome = if_some held _ (λ files e.
             let o = told_diags (diagnostics input (tree files input)) list.items (written output (tree files input)) (from_some held (λ fs. diagnostics input (tree fs input) ≡ list.items) files diags.1 e) diags.0 in
             (o.0, d.2 ∙ ap (grown before.told) (sym o.1)));

@@ -80,12 +80,7 @@ pub fn strip_file(alloc: Global, output: &str, file: &HeldFile) -> Result<HeldFi
             bytes,
         }),
         Err(refused) => match limit_code(refused) {
-            Some(code) => Err(Stop::Diagnosed(diagnose(
-                alloc,
-                file.path.as_str(),
-                code,
-                name,
-            )?)),
+            Some(code) => Err(Stop::Diagnosed(diagnose(alloc, file.path.as_str(), code, name)?)),
             None => Err(Stop::Memory),
         },
     }

@@ -9,14 +9,12 @@ mod stop;
 mod stream;
 mod strip;
 mod tell;
-
 #[cfg(test)]
 mod tests;
 
 use hdr_core::{DirFiles, DirOuts, NoGate, StdSink};
-use std::env;
-use std::io;
 use std::process::ExitCode;
+use std::{env, io};
 use stream::StandardStream;
 
 /// The words behind the program's name. Words that aren't UTF-8 are no job, so none are handed on.

@@ -11,12 +11,7 @@ use hdr_core::{CallErr, Code, Diag, FileErr, Files, HeldFile, LONGEST_FILE, Memo
 use std::alloc::Global;
 
 /// The only diagnostic of a job: at a path of file 0 and line 0.
-pub fn diagnose(
-    alloc: Global,
-    path: &str,
-    code: Code,
-    name: &[u8],
-) -> Result<Vec<Diag>, Memory>
+pub fn diagnose(alloc: Global, path: &str, code: Code, name: &[u8]) -> Result<Vec<Diag>, Memory>
     ensures { IfOk result (λ list. list.items ≡ diag_at 0 path.now code name.now ∷ []) }
 {
     let mut list = Vec::new(alloc);

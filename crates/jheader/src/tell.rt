@@ -47,12 +47,7 @@ pub fn tell_fault<S: Sink>(alloc: Global, path: &str, err: &mut S) -> Status
 pub fn tell_archive<S: Sink>(alloc: Global, word: &str, err: &mut S) -> Status
     ensures { LineTold Status.Usage result (S.faults err.old) (S.faults err.new) (S.told err.old) (S.told err.new) (archive_line word.now) }
 {
-    let Ok(line) = joined(
-        alloc,
-        b"archives are not read: ",
-        word.as_bytes(),
-        b"\n",
-    ) else {
+    let Ok(line) = joined(alloc, b"archives are not read: ", word.as_bytes(), b"\n") else {
         return Status::Memory;
     };
     match tell_line(&line, err) {

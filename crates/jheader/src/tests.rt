@@ -3,9 +3,7 @@ ghost use Rattle.std.specs.Prelude.{◌≢◌, IfOk};
 
 use crate::run::run;
 use crate::status::Status;
-use hdr_core::{
-    HeldFile, MemFiles, MemOuts, MemSink, NoGate, SureFiles, SureOuts, SureSink,
-};
+use hdr_core::{HeldFile, MemFiles, MemOuts, MemSink, NoGate, SureFiles, SureOuts, SureSink};
 use std::alloc::Global;
 use std::process::Abort;
 use std::test::Fail;
@@ -177,7 +175,10 @@ fn tells_inputs_of_other_than_one_class(rt: HostRuntime) -> Result<(), Fail> {
 fn tells_files_that_are_too_long(rt: HostRuntime) -> Result<(), Fail> {
     let rows = [
         (16_777_216, "in/A.class:0: F0 not read in this stage\n"),
-        (16_777_217, "in/A.class:0: L1 file is longer than 16777216 bytes\n"),
+        (
+            16_777_217,
+            "in/A.class:0: L1 file is longer than 16777216 bytes\n",
+        ),
     ];
     for (length, told) in rows {
         let mut input = file(rt.alloc(), "in/A.class", PLAIN)?;

@@ -60,14 +60,15 @@ returns-in-Some-clause-stops g c =
     let s = sole_at c.in_ok-path.field-0 c.in-Some.path root (map string_bytes c.deref.result.now) listed c.in-Some.is same c.in_ok-path.ensures.sole in
     let contained = contains_at c.in_ok-path.field-0 c.in-Some.path (map string_bytes c.deref.result.now) listed c.in-Some.is same c.in_ok-path.ensures.listed in
     if_err_weaker c.read_file.result _ _ (λ stop. stops_weaker stop _ _ _ _
-        (λ path e. let P : List ℕ → Type 0 = λ p. IfSome held (λ files. IsRootOrUsed files root p) in subst P (sym e) (path_used held held' root listed c.list.ensures.held c.in-Ok.ensures.paths c.in-Some.path s))
-        (λ list h. (filled list _ h.0, as_told held root list _ h.0 (long_told held held' root listed c.list.ensures.held c.in-Ok.ensures.paths c.in-Some.path s contained h.1)))) c.read_file.ensures.stops
+    (λ path e. let P : List ℕ → Type 0 = λ p. IfSome held (λ files. IsRootOrUsed files root p) in subst P (sym e) (path_used held held' root listed c.list.ensures.held c.in-Ok.ensures.paths c.in-Some.path s))
+    (λ list h. (filled list _ h.0, as_told held root list _ h.0 (long_told held held' root listed c.list.ensures.held c.in-Ok.ensures.paths c.in-Some.path s contained h.1)))) c.read_file.ensures.stops
 
 pub returns-clause-stops : goal.returns-clause-stops
 returns-clause-stops g c =
     let same = ap (map string_bytes) c.deref.ensures.value in
     let listed = map string_bytes c.in-Ok.listed.items in
     let held = g.F.Files.held c.args.files.now in
-    let s = none_at c.in_ok-path.field-0 c.args.root.now (map string_bytes c.deref.result.now) listed c.in-None.is same c.in_ok-path.ensures.sole in
-    (filled c.in_ok-diagnose-in-None.field-0.items _ c.in_ok-diagnose-in-None.ensures,
-    as_told held c.args.root.now c.in_ok-diagnose-in-None.field-0.items _ c.in_ok-diagnose-in-None.ensures (none_told held (g.F.Files.held c.list.new.self) c.args.root.now listed c.list.ensures.held c.in-Ok.ensures.paths s))
+    let s = none_at c.in_ok-path.field-0 c.args.root.now (map string_bytes c.deref.result.now) listed c.in-None.is same c.in_ok-path.ensures.sole in (
+      filled c.in_ok-diagnose-in-None.field-0.items _ c.in_ok-diagnose-in-None.ensures,
+      as_told held c.args.root.now c.in_ok-diagnose-in-None.field-0.items _ c.in_ok-diagnose-in-None.ensures (none_told held (g.F.Files.held c.list.new.self) c.args.root.now listed c.list.ensures.held c.in-Ok.ensures.paths s),
+    )
