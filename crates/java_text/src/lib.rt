@@ -1,0 +1,11 @@
+//! The text of a Java source (JLS 3.2 to 3.5, 3.8), and modified UTF-8 (JVMS 4.4.7).
+#![tactic(auto)]
+
+mod escape;
+mod letter;
+mod modified;
+mod source;
+
+pub use letter::{begins_identifier, continues_identifier};
+pub use modified::modified_utf8;
+pub use source::{SourceText, source_text};
