@@ -1,13 +1,9 @@
-// A library with one function.
+//! The tokens of a Java source (JLS chapter 3).
 #![tactic(auto)]
 
-ghost use Rattle.std.specs.Prelude.{◌≡◌};
-ghost use Rattle.java_lexer.specs.Echo.{echo_of};
+mod form;
+mod kind;
+mod number;
+mod quoted;
 
-// The `ensures` clause is the contract: what `echo` returns is `echo_of` of its argument, a definition
-// in `specs/Echo.antt`, which a caller's clause can cite too.
-pub fn echo(x: usize) -> usize
-    ensures { result ≡ echo_of x }
-{
-    x
-}
+pub use java_token::{Kw, LexLit, OpTok, Token, TokenKind};
