@@ -1,2 +1,4 @@
 pub mod Derive
 pub mod Standing
+pub mod States
+pub mod Longest

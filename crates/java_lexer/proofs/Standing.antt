@@ -150,10 +150,265 @@ row ps = map (derive ps) (below 129)
 abbrev pub next_row : Form → List (List Production)
 next_row q = map (λ s. stands_if (next_form q s)) (below 129)
 
-try_zero : row (stands (form.Number number.Zero)) ≡ next_row (form.Number number.Zero)
-unfolding stands grammar comment
-try_zero = refl
+tabled : (q : Form) → row (stands q) ≡ next_row q → (s : ℕ) → s < 129 → derive (stands q) s ≡ stands_if (next_form q s)
+tabled q e s h = same_below (derive (stands q)) (λ t. stands_if (next_form q t)) 129 s e h
 
-try_dot : row (stands (form.Operator op.Dot)) ≡ next_row (form.Operator op.Dot)
+number_rows : (x : Number) → row (stands (form.Number x)) ≡ next_row (form.Number x)
 unfolding stands grammar comment
-try_dot = refl
+number_rows number.Zero = refl
+number_rows number.Octal = refl
+number_rows number.OctalGap = refl
+number_rows number.Digits = refl
+number_rows number.DigitsGap = refl
+number_rows number.Decimal = refl
+number_rows number.DecimalGap = refl
+number_rows number.Point = refl
+number_rows number.Fraction = refl
+number_rows number.FractionGap = refl
+number_rows number.Exponent = refl
+number_rows number.ExponentSign = refl
+number_rows number.ExponentDigits = refl
+number_rows number.ExponentGap = refl
+number_rows number.HexMark = refl
+number_rows number.Hex = refl
+number_rows number.HexGap = refl
+number_rows number.HexPoint = refl
+number_rows number.HexBarePoint = refl
+number_rows number.HexFraction = refl
+number_rows number.HexFractionGap = refl
+number_rows number.BinaryMark = refl
+number_rows number.Binary = refl
+number_rows number.BinaryGap = refl
+
+quoted_rows : (x : Quoted) → row (stands (form.Quoted x)) ≡ next_row (form.Quoted x)
+unfolding stands grammar comment
+quoted_rows quoted.Quote = refl
+quoted_rows quoted.TwoQuotes = refl
+quoted_rows quoted.Text = refl
+quoted_rows quoted.TextEscape = refl
+quoted_rows quoted.BlockOpening = refl
+quoted_rows quoted.Block = refl
+quoted_rows quoted.BlockQuote = refl
+quoted_rows quoted.BlockTwoQuotes = refl
+quoted_rows quoted.BlockEscape = refl
+quoted_rows quoted.Apostrophe = refl
+quoted_rows quoted.CharacterEscape = refl
+quoted_rows quoted.LowOctal = refl
+quoted_rows quoted.Octal = refl
+quoted_rows quoted.Character = refl
+
+operator_rows : (x : OpTok) → row (stands (form.Operator x)) ≡ next_row (form.Operator x)
+unfolding stands grammar comment
+operator_rows op.LeftParenthesis = refl
+operator_rows op.RightParenthesis = refl
+operator_rows op.LeftBrace = refl
+operator_rows op.RightBrace = refl
+operator_rows op.LeftBracket = refl
+operator_rows op.RightBracket = refl
+operator_rows op.Semicolon = refl
+operator_rows op.Comma = refl
+operator_rows op.Dot = refl
+operator_rows op.Ellipsis = refl
+operator_rows op.At = refl
+operator_rows op.DoubleColon = refl
+operator_rows op.Assign = refl
+operator_rows op.Greater = refl
+operator_rows op.Less = refl
+operator_rows op.Not = refl
+operator_rows op.Complement = refl
+operator_rows op.Question = refl
+operator_rows op.Colon = refl
+operator_rows op.Arrow = refl
+operator_rows op.Equal = refl
+operator_rows op.GreaterEqual = refl
+operator_rows op.LessEqual = refl
+operator_rows op.NotEqual = refl
+operator_rows op.AndAnd = refl
+operator_rows op.OrOr = refl
+operator_rows op.Increment = refl
+operator_rows op.Decrement = refl
+operator_rows op.Plus = refl
+operator_rows op.Minus = refl
+operator_rows op.Star = refl
+operator_rows op.Slash = refl
+operator_rows op.And = refl
+operator_rows op.Or = refl
+operator_rows op.Xor = refl
+operator_rows op.Percent = refl
+operator_rows op.ShiftLeft = refl
+operator_rows op.ShiftRight = refl
+operator_rows op.ShiftRightUnsigned = refl
+operator_rows op.PlusAssign = refl
+operator_rows op.MinusAssign = refl
+operator_rows op.StarAssign = refl
+operator_rows op.SlashAssign = refl
+operator_rows op.AndAssign = refl
+operator_rows op.OrAssign = refl
+operator_rows op.XorAssign = refl
+operator_rows op.PercentAssign = refl
+operator_rows op.ShiftLeftAssign = refl
+operator_rows op.ShiftRightAssign = refl
+operator_rows op.ShiftRightUnsignedAssign = refl
+
+line_comment_row : row (stands form.LineComment) ≡ next_row form.LineComment
+unfolding stands grammar comment
+line_comment_row = refl
+
+comment_rows : (star : Bool) → row (stands (form.Comment star)) ≡ next_row (form.Comment star)
+unfolding stands grammar comment
+comment_rows true = refl
+comment_rows false = refl
+
+two_dots_row : row (stands form.TwoDots) ≡ next_row form.TwoDots
+unfolding stands grammar comment
+two_dots_row = refl
+
+return_row : row (stands form.Return) ≡ next_row form.Return
+unfolding stands grammar comment
+return_row = refl
+
+closed_next : (k : Kind) (s : ℕ) → derive (stands (form.Closed k)) s ≡ stands_if (next_form (form.Closed k) s)
+unfolding stands
+closed_next k s = refl
+
+-- the machine's next form stands for what the symbol leaves
+pub next-stands : (q : Form) (s : ℕ) → s < 129 → derive (stands q) s ≡ stands_if (next_form q s)
+next-stands (form.Closed k) s h = closed_next k s
+next-stands form.Return s h = tabled form.Return return_row s h
+next-stands form.LineComment s h = tabled form.LineComment line_comment_row s h
+next-stands (form.Comment star) s h = tabled (form.Comment star) (comment_rows star) s h
+next-stands (form.Operator x) s h = tabled (form.Operator x) (operator_rows x) s h
+next-stands form.TwoDots s h = tabled form.TwoDots two_dots_row s h
+next-stands (form.Number x) s h = tabled (form.Number x) (number_rows x) s h
+next-stands (form.Quoted x) s h = tabled (form.Quoted x) (quoted_rows x) s h
+
+first_row : row grammar ≡ map (λ s. stands_if (first_form s)) (below 129)
+unfolding stands grammar comment
+first_row = refl
+
+-- the machine's first form stands for what the symbol leaves of the grammar
+pub first-stands : (s : ℕ) → s < 129 → derive grammar s ≡ stands_if (first_form s)
+first-stands s h = same_below (derive grammar) (λ t. stands_if (first_form t)) 129 s first_row h
+
+number_kinds : (x : Number) → kind_by (stands (form.Number x)) [] ≡ form_kind (form.Number x)
+unfolding stands grammar comment kind_by
+number_kinds number.Zero = refl
+number_kinds number.Octal = refl
+number_kinds number.OctalGap = refl
+number_kinds number.Digits = refl
+number_kinds number.DigitsGap = refl
+number_kinds number.Decimal = refl
+number_kinds number.DecimalGap = refl
+number_kinds number.Point = refl
+number_kinds number.Fraction = refl
+number_kinds number.FractionGap = refl
+number_kinds number.Exponent = refl
+number_kinds number.ExponentSign = refl
+number_kinds number.ExponentDigits = refl
+number_kinds number.ExponentGap = refl
+number_kinds number.HexMark = refl
+number_kinds number.Hex = refl
+number_kinds number.HexGap = refl
+number_kinds number.HexPoint = refl
+number_kinds number.HexBarePoint = refl
+number_kinds number.HexFraction = refl
+number_kinds number.HexFractionGap = refl
+number_kinds number.BinaryMark = refl
+number_kinds number.Binary = refl
+number_kinds number.BinaryGap = refl
+
+quoted_kinds : (x : Quoted) → kind_by (stands (form.Quoted x)) [] ≡ form_kind (form.Quoted x)
+unfolding stands grammar comment kind_by
+quoted_kinds quoted.Quote = refl
+quoted_kinds quoted.TwoQuotes = refl
+quoted_kinds quoted.Text = refl
+quoted_kinds quoted.TextEscape = refl
+quoted_kinds quoted.BlockOpening = refl
+quoted_kinds quoted.Block = refl
+quoted_kinds quoted.BlockQuote = refl
+quoted_kinds quoted.BlockTwoQuotes = refl
+quoted_kinds quoted.BlockEscape = refl
+quoted_kinds quoted.Apostrophe = refl
+quoted_kinds quoted.CharacterEscape = refl
+quoted_kinds quoted.LowOctal = refl
+quoted_kinds quoted.Octal = refl
+quoted_kinds quoted.Character = refl
+
+operator_kinds : (x : OpTok) → kind_by (stands (form.Operator x)) [] ≡ form_kind (form.Operator x)
+unfolding stands grammar comment kind_by
+operator_kinds op.LeftParenthesis = refl
+operator_kinds op.RightParenthesis = refl
+operator_kinds op.LeftBrace = refl
+operator_kinds op.RightBrace = refl
+operator_kinds op.LeftBracket = refl
+operator_kinds op.RightBracket = refl
+operator_kinds op.Semicolon = refl
+operator_kinds op.Comma = refl
+operator_kinds op.Dot = refl
+operator_kinds op.Ellipsis = refl
+operator_kinds op.At = refl
+operator_kinds op.DoubleColon = refl
+operator_kinds op.Assign = refl
+operator_kinds op.Greater = refl
+operator_kinds op.Less = refl
+operator_kinds op.Not = refl
+operator_kinds op.Complement = refl
+operator_kinds op.Question = refl
+operator_kinds op.Colon = refl
+operator_kinds op.Arrow = refl
+operator_kinds op.Equal = refl
+operator_kinds op.GreaterEqual = refl
+operator_kinds op.LessEqual = refl
+operator_kinds op.NotEqual = refl
+operator_kinds op.AndAnd = refl
+operator_kinds op.OrOr = refl
+operator_kinds op.Increment = refl
+operator_kinds op.Decrement = refl
+operator_kinds op.Plus = refl
+operator_kinds op.Minus = refl
+operator_kinds op.Star = refl
+operator_kinds op.Slash = refl
+operator_kinds op.And = refl
+operator_kinds op.Or = refl
+operator_kinds op.Xor = refl
+operator_kinds op.Percent = refl
+operator_kinds op.ShiftLeft = refl
+operator_kinds op.ShiftRight = refl
+operator_kinds op.ShiftRightUnsigned = refl
+operator_kinds op.PlusAssign = refl
+operator_kinds op.MinusAssign = refl
+operator_kinds op.StarAssign = refl
+operator_kinds op.SlashAssign = refl
+operator_kinds op.AndAssign = refl
+operator_kinds op.OrAssign = refl
+operator_kinds op.XorAssign = refl
+operator_kinds op.PercentAssign = refl
+operator_kinds op.ShiftLeftAssign = refl
+operator_kinds op.ShiftRightAssign = refl
+operator_kinds op.ShiftRightUnsignedAssign = refl
+
+-- a form's kind is that of a piece that ends there
+pub kind-stands : (q : Form) → kind_by (stands q) [] ≡ form_kind q
+unfolding stands grammar comment kind_by
+kind-stands (form.Closed k) = refl
+kind-stands form.Return = refl
+kind-stands form.LineComment = refl
+kind-stands (form.Comment true) = refl
+kind-stands (form.Comment false) = refl
+kind-stands (form.Operator x) = operator_kinds x
+kind-stands form.TwoDots = refl
+kind-stands (form.Number x) = number_kinds x
+kind-stands (form.Quoted x) = quoted_kinds x
+
+-- a comment's units behind `/*`
+pub comment_behind : derive (derive comment 47) 42 ≡ stands (form.Comment false)
+unfolding stands
+comment_behind = refl
+
+pub comment_slash : kind_by (derive comment 47) [] ≡ None
+unfolding kind_by comment
+comment_slash = refl
+
+pub comment_opening : kind_by (stands (form.Comment false)) [] ≡ None
+unfolding stands grammar comment kind_by
+comment_opening = refl

@@ -1,9 +1,13 @@
 -- The machine that goes over a piece unit by unit. Only contracts of private functions cite it.
-use Rattle.std.specs.Prelude.{ℕ, Bool, true, false, ◌&&◌, ◌||◌, ◌==◌, nat_le, Option, Some, None, if◌then◌else◌}
+use Rattle.std.specs.Prelude.{ℕ, ◌+◌, min, List, [], ◌∷◌, Bool, true, false, ◌&&◌, ◌||◌, ◌==◌, nat_le, Option, Some, None, if◌then◌else◌}
 use Rattle.java_token.specs.declared.operator.OpTok.{OpTok}
 use Rattle.java_token.specs.declared.operator.OpTok.TheVariants as op
 use Rattle.java_lexer.specs.declared.kind.Kind.{Kind}
 use Rattle.java_lexer.specs.declared.kind.Kind.TheVariants as kind
+use Rattle.std.specs.Char.Utf16.{is_high_surrogate, is_low_surrogate, surrogate_pair_char}
+use Rattle.java_text.specs.Letters.{is_start, is_part}
+use Rattle.java_lexer.specs.declared.state.State.{State}
+use Rattle.java_lexer.specs.declared.state.State.TheVariants as state
 use Rattle.java_lexer.specs.declared.form.Form.{Form}
 use Rattle.java_lexer.specs.declared.form.Form.TheVariants as form
 use Rattle.java_lexer.specs.declared.number.Number.{Number}
@@ -307,3 +311,36 @@ form_kind (form.Operator operator) = Some (kind.Operator operator)
 form_kind form.TwoDots = None
 form_kind (form.Number number) = number_kind number
 form_kind (form.Quoted quoted) = quoted_kind quoted
+
+-- a whole piece, words too
+
+abbrev pub other : Option Form → Option State
+other None = None
+other (Some q) = Some (state.Other q)
+
+abbrev pub next_state : State → ℕ → Option State
+next_state state.Start c = if is_high_surrogate c then Some (state.FirstPair c)
+    else (if is_start c then Some state.Word else other (first_form (min c 128)))
+next_state (state.FirstPair high) c = if is_low_surrogate c && is_start (surrogate_pair_char high c) then Some state.Word else None
+next_state state.Word c = if is_high_surrogate c then Some (state.WordPair c) else (if is_part c then Some state.Word else None)
+next_state (state.WordPair high) c = if is_low_surrogate c && is_part (surrogate_pair_char high c) then Some state.Word else None
+next_state (state.Other q) c = other (next_form q (min c 128))
+
+abbrev pub state_kind : State → Option Kind
+state_kind state.Word = Some kind.Word
+state_kind (state.Other q) = form_kind q
+state_kind _ = None
+
+-- the piece that ends here, or a shorter one
+abbrev pub better : ℕ → Option Kind → Option (ℕ × Kind) → Option (ℕ × Kind)
+better n None best = best
+better n (Some k) best = Some (n, k)
+
+abbrev pub go_on : Option State → (State → Option (ℕ × Kind)) → Option (ℕ × Kind) → Option (ℕ × Kind)
+go_on None further best = best
+go_on (Some q) further best = further q
+
+-- The units from the n-th on, from this state: the last place at which a piece may end.
+abbrev pub scan : State → ℕ → Option (ℕ × Kind) → List ℕ → Option (ℕ × Kind)
+scan q n best [] = best
+scan q n best (c ∷ units) = go_on (next_state q c) (λ next. scan next (n + 1) (better (n + 1) (state_kind next) best) units) best

@@ -1,7 +1,5 @@
 -- Which pieces a text has, by longest match (JLS 3.2).
-use Rattle.std.specs.Prelude.{ℕ, zero, suc, Bool, true, false, List, [], ◌∷◌, length, take, Option, Some, None, codes, if◌then◌else◌}
-use Rattle.std.specs.Prelude.{nat_eq}
-use Rattle.std.specs.List.{starts_with}
+use Rattle.std.specs.Prelude.{ℕ, zero, suc, Bool, true, false, List, [], ◌∷◌, length, take, Option, Some, None, slice_index, ◌&&◌, ◌==◌, if◌then◌else◌}
 use Rattle.java_lexer.specs.declared.kind.Kind.{Kind}
 use Rattle.java_lexer.specs.declared.kind.Kind.TheVariants as kind
 use Rattle.java_lexer.specs.Grammar.{kind_by, grammar, comment}
@@ -25,6 +23,10 @@ longest_up_to kind (suc n) units = or_shorter (suc n) (kind (take (suc n) units)
 abbrev pub longest : (List ℕ → Option Kind) → List ℕ → Option (ℕ × Kind)
 longest kind units = longest_up_to kind (length units) units
 
+-- `/*` stands at the front
+abbrev pub opens_comment : List ℕ → Bool
+opens_comment units = slice_index units 0 == 47 && slice_index units 1 == 42
+
 -- The piece at the front: the longest front that is one. At `/*` only a comment is a piece.
 unfoldable pub piece_at : List ℕ → Option (ℕ × Kind)
-piece_at units = if starts_with nat_eq units (codes "/*") then longest (kind_by comment) units else longest kind_of units
+piece_at units = if opens_comment units then longest (kind_by comment) units else longest kind_of units

@@ -5,5 +5,6 @@ mod form;
 mod kind;
 mod number;
 mod quoted;
+mod state;
 
 pub use java_token::{Kw, LexLit, OpTok, Token, TokenKind};
