@@ -2,3 +2,5 @@ pub mod Derive
 pub mod Standing
 pub mod States
 pub mod Longest
+pub mod NumberLemmas
+pub mod EscapeLemmas
