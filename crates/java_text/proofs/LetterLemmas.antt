@@ -4,7 +4,7 @@ use Rattle.std.proofs.lemmas.Bool.{cases_lt}
 use Rattle.ucd_table.specs.Rows.{value_in}
 use Rattle.unicode.specs.GeneralCategory.{general_category}
 use Rattle.ucd_category.specs.GeneralCategoryRows.{general_category_rows}
-use Rattle.java_text.specs.Letters.{is_start, is_part, is_ascii_start, is_ascii_part}
+use Rattle.java_text.specs.Letters.{is_start, is_part, is_ascii_start, is_ascii_part, is_white, is_ascii_white}
 
 -- the numbers below k, the greatest first
 abbrev pub below : ℕ → List ℕ
@@ -31,3 +31,10 @@ ascii_start c h = same_below is_start is_ascii_start 128 c ascii_starts h
 
 pub ascii_part : (c : ℕ) → c < 128 → is_part c ≡ is_ascii_part c
 ascii_part c h = same_below is_part is_ascii_part 128 c ascii_parts h
+
+ascii_whites : map is_white (below 128) ≡ map is_ascii_white (below 128)
+unfolding is_white general_category value_in general_category_rows
+ascii_whites = refl
+
+pub ascii_white : (c : ℕ) → c < 128 → is_white c ≡ is_ascii_white c
+ascii_white c h = same_below is_white is_ascii_white 128 c ascii_whites h

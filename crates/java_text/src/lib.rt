@@ -5,7 +5,9 @@ mod escape;
 mod letter;
 mod modified;
 mod source;
+mod white;
 
 pub use letter::{begins_identifier, continues_identifier};
 pub use modified::modified_utf8;
 pub use source::{SourceText, source_text};
+pub use white::is_white;

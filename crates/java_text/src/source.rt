@@ -1,5 +1,5 @@
 //! From the bytes of a source to its text.
-ghost use Rattle.std.specs.Prelude.{◌≡◌, ◌++◌, ◌≤◌, IfOk, OnOk, length, take};
+ghost use Rattle.std.specs.Prelude.{◌≡◌, ◌++◌, ◌≤◌, ◌+◌, IfOk, OnOk, length, take, if◌then◌else◌};
 ghost use Rattle.std.specs.List.{flat_map};
 ghost use Rattle.std.specs.Str.{chars};
 ghost use Rattle.std.specs.Str.Lossy.{utf8_valid_len};
@@ -24,6 +24,8 @@ pub struct SourceText {
 pub fn source_text(alloc: Global, bytes: &[u8]) -> Result<SourceText, Memory>
     ensures text { IfOk result (λ source. source.units.items ≡ text_of bytes.now) }
     ensures whole { IfOk result (λ source. source.whole ≡ is_all_utf8 bytes.now) }
+    // There are no more units than bytes, and fewer where a byte is no UTF-8.
+    ensures room { IfOk result (λ source. length source.units.items + (if source.whole then 0 else 1) ≤ length bytes.now) }
 {
     let text = longest_utf8(bytes);
     let whole = text.len() == bytes.len();
