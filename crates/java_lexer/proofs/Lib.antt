@@ -4,3 +4,5 @@ pub mod States
 pub mod Longest
 pub mod NumberLemmas
 pub mod EscapeLemmas
+pub mod CutLemmas
+pub mod BlockLemmas

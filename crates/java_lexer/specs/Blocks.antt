@@ -1,5 +1,5 @@
 -- What a text block stands for (JLS 3.10.6), in UTF-16 units.
-use Rattle.std.specs.Prelude.{ℕ, ◌+◌, ◌-◌, Bool, true, false, ◌&&◌, not, ◌==◌, List, [], ◌∷◌, ◌++◌, length, take, drop, min, take_while, if◌then◌else◌}
+use Rattle.std.specs.Prelude.{ℕ, suc, ◌+◌, ◌-◌, Bool, true, false, ◌&&◌, not, ◌==◌, List, [], ◌∷◌, ◌++◌, length, take, drop, min, take_while, if◌then◌else◌}
 use Rattle.std.specs.List.{list_all}
 use Rattle.java_text.specs.Letters.{is_white}
 use Rattle.java_lexer.specs.Escapes.{unescaped}
@@ -27,6 +27,11 @@ beginning c (line ∷ lines) = (c ∷ line) ∷ lines
 unfoldable pub lines : List ℕ → List (List ℕ)
 lines [] = [] ∷ []
 lines (c ∷ units) = if c == 10 then [] ∷ lines units else beginning c (lines units)
+
+-- how many units the first line has
+unfoldable pub line_length : List ℕ → ℕ
+line_length [] = 0
+line_length (c ∷ units) = if c == 10 then 0 else suc (line_length units)
 
 abbrev pub is_blank : List ℕ → Bool
 is_blank line = list_all is_white line

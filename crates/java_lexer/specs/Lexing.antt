@@ -65,3 +65,13 @@ verdict cut whole = verdict_of cut.rest
 -- the tokens of the bytes, or the line and the kind of their bad place
 unfoldable pub lexed : List ℕ → Result (List Token) LexFault
 lexed bytes = verdict (cut_of (text_of bytes)) (is_all_utf8 bytes)
+
+-- how the units end: in a CR, or as before if there are none
+unfoldable pub ends_in_return : Bool → List ℕ → Bool
+ends_in_return after_return [] = after_return
+ends_in_return after_return (c ∷ units) = ends_in_return (c == 13) units
+
+-- the token of a piece on a line, if it is one
+abbrev pub tokens_at : Option TokenKind → ℕ → List Token
+tokens_at None line = []
+tokens_at (Some kind) line = record { kind = kind; line = line } ∷ []

@@ -5,3 +5,7 @@ pub mod Machine
 pub mod Keywords
 pub mod Escapes
 pub mod Numbers
+pub mod Blocks
+pub mod Tokens
+pub mod Lexing
+pub mod Cutting

@@ -1,7 +1,10 @@
 //! The tokens of a Java source (JLS chapter 3).
 #![tactic(auto)]
 
+mod block;
+mod cut;
 mod escape;
+mod fault;
 mod form;
 mod integer;
 mod keyword;
@@ -9,5 +12,7 @@ mod kind;
 mod number;
 mod quoted;
 mod state;
+mod token;
 
+pub use fault::{LexErr, LexFault, LexKind};
 pub use java_token::{Kw, LexLit, OpTok, Token, TokenKind};

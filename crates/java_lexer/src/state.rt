@@ -1,5 +1,5 @@
 //! The longest piece at the front of a text (JLS 3.2).
-ghost use Rattle.std.specs.Prelude.{◌≡◌, ◌≤◌, IfSome, None, length, min, true};
+ghost use Rattle.std.specs.Prelude.{◌≡◌, ◌≤◌, ◌<◌, IfSome, None, length, min, true};
 ghost use Rattle.std.specs.Bool.{OnTrue};
 ghost use Rattle.std.specs.Char.Utf16.{is_high_surrogate, is_low_surrogate, surrogate_pair_char};
 ghost use Rattle.java_lexer.specs.Machine.{next_state, scan as machine_scan, state_kind};
@@ -144,6 +144,7 @@ fn scan(start: State, units: &[u16]) -> Option<(usize, Kind)>
 pub fn piece_at(units: &[u16]) -> Option<(usize, Kind)>
     ensures value { result ≡ piece_of units.now }
     ensures within { IfSome result (λ found. found.0 ≤ length units.now) }
+    ensures progress { IfSome result (λ found. 0 < found.0) }
 {
     if opens_comment(units) {
         comment_at(units)
