@@ -9,7 +9,7 @@ use Rattle.java_lexer.specs.Grammar.{kind_by, comment}
 use Rattle.java_lexer.specs.Pieces.{kind_of, longest_up_to, longest, or_shorter, piece_at, opens_comment}
 use Rattle.java_lexer.specs.Machine.{next_state, state_kind, scan, better, go_on}
 use Rattle.java_lexer.proofs.Derive.{derive, derive-is}
-use Rattle.java_lexer.proofs.Standing.{stands, comment_behind, comment_slash, comment_opening}
+use Rattle.java_lexer.proofs.FormLemmas.{stands, comment_behind, comment_slash, comment_opening}
 use Rattle.java_lexer.proofs.States.{completed, completed_if, completed-step, completed-end}
 
 abbrev pub Found : Type 0

@@ -14,7 +14,7 @@ use Rattle.java_lexer.specs.Words.{is_word, is_word_behind, are_parts}
 use Rattle.java_lexer.specs.Pieces.{kind_of}
 use Rattle.java_lexer.specs.Machine.{next_state, next_form, first_form, form_kind, state_kind, other}
 use Rattle.java_lexer.proofs.Derive.{derive, derive-is}
-use Rattle.java_lexer.proofs.Standing.{stands, stands_if, next-stands, first-stands, kind-stands, same_below, below}
+use Rattle.java_lexer.proofs.FormLemmas.{stands, stands_if, next-stands, first-stands, kind-stands, same_below, below}
 
 abbrev pub word_if : Bool → Option Kind
 word_if b = if b then Some kind.Word else None

@@ -7,8 +7,6 @@ use Rattle.java_lexer.specs.declared.kind.Kind.{Kind}
 use Rattle.java_lexer.specs.declared.fault.LexFault.{LexFault}
 use Rattle.java_lexer.specs.declared.fault.LexKind.{LexKind}
 use Rattle.java_lexer.specs.declared.fault.LexKind.TheVariants.{Utf8, NoToken}
-use Rattle.java_lexer.specs.declared.fault.LexErr.{LexErr}
-use Rattle.java_lexer.specs.declared.fault.LexErr.TheVariants.{Fault, Memory}
 use Rattle.java_lexer.specs.Pieces.{piece_at}
 use Rattle.java_lexer.specs.Tokens.{token_of}
 
@@ -55,12 +53,12 @@ cut_of units = cut_up_to (length units) [] units
 
 -- The cut goes through, and all bytes are UTF-8. Else the bad place is where it can't go on, which is no
 -- UTF-8 where no text is left.
+abbrev pub verdict_at : List ℕ → List Token → ℕ → Bool → Result (List Token) LexFault
+verdict_at [] tokens line whole = if whole then Ok tokens else Err (record { line = line; kind = Utf8 })
+verdict_at (c ∷ rest) tokens line whole = Err (record { line = line; kind = NoToken })
+
 abbrev pub verdict : Cut → Bool → Result (List Token) LexFault
-verdict cut whole = verdict_of cut.rest
-  where
-    verdict_of : List ℕ → Result (List Token) LexFault
-    verdict_of [] = if whole then Ok cut.tokens else Err (record { line = line_behind cut.before; kind = Utf8 })
-    verdict_of (c ∷ units) = Err (record { line = line_behind cut.before; kind = NoToken })
+verdict cut whole = verdict_at cut.rest cut.tokens (line_behind cut.before) whole
 
 -- the tokens of the bytes, or the line and the kind of their bad place
 unfoldable pub lexed : List ℕ → Result (List Token) LexFault

@@ -9,3 +9,4 @@ pub mod Blocks
 pub mod Tokens
 pub mod Lexing
 pub mod Cutting
+pub mod Feeding

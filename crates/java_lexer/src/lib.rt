@@ -9,10 +9,13 @@ mod form;
 mod integer;
 mod keyword;
 mod kind;
+mod lexer;
 mod number;
 mod quoted;
+mod standing;
 mod state;
 mod token;
 
 pub use fault::{LexErr, LexFault, LexKind};
+pub use lexer::Lexer;
 pub use java_token::{Kw, LexLit, OpTok, Token, TokenKind};

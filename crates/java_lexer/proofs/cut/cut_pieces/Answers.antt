@@ -1,6 +1,6 @@
-use Rattle.std.proofs.Common.{◌≡◌, ℕ, ◌+◌, ◌-◌, ◌∙◌, sym, ap, refl, arith, take, drop, ◌++◌}
-use Rattle.std.proofs.lemmas.List.{take_rest}
-use Rattle.java_lexer.specs.Lexing.{Cut, cut_of, cut_up_to, line_ends, ends_in_return}
+use Rattle.std.proofs.Common.{◌≡◌, ℕ, ◌+◌, ◌-◌, ◌∙◌, sym, ap, refl, arith, take, drop, ◌++◌, length-drop}
+use Rattle.std.proofs.lemmas.List.{take_rest, length-take}
+use Rattle.java_lexer.specs.Lexing.{Cut, cut_of, cut_up_to, line_behind, line_ends, ends_in_return}
 use Rattle.java_lexer.proofs.CutLemmas.{behind_tokens, cut_at, cut_step, cut_stops, cut_ends, line_ends_further, ends_in_return_further}
 use Rattle.java_lexer.proofs.cut.cut_pieces.Goals as goal
 
@@ -27,7 +27,22 @@ returns-in-None c =
     }
 
 pub loop-at-preserved : goal.loop-at-preserved
-loop-at-preserved c = ?
+loop-at-preserved c =
+    let at = c.loop-at.at in
+    let n = c.in-Some.length in
+    let units = c.args.units.now in
+    let same : at + n - at ≡ n = omega arith in
+    let line : c.loop-at.place.line_ends + 1 ≡ line_behind (take at units) = omega (arith, c.loop-at.invariant.ends) in
+    let room = simp take_rest at c.in-Some.ensures.within in
+    record {
+      whole = ap (λ tokens. behind_tokens tokens (cut_at (at + n) units)) (rw same at c.in_ok-push_token-in-Some.ensures)
+        ∙ cut_step at n c.in-Some.kind _ c.loop-at.tokens.items units c.loop-at-test.true (sym (simp take_rest at c.in-Some.ensures.value)) c.in-Some.ensures.progress line
+        ∙ c.loop-at.invariant.whole;
+      within = omega (arith, room, length-drop at units, c.loop-at.invariant.within);
+      ends = (rw same at c.behind-place.ensures.ends) ∙ rw (c.loop-at.invariant.ends, c.loop-at.invariant.last) (sym (line_ends_further at n units));
+      last = (rw same at c.behind-place.ensures.last) ∙ rw c.loop-at.invariant.last (sym (ends_in_return_further at n units));
+      bound = omega (arith, rw same at c.behind-place.ensures.bound, length-take n (drop at units), c.loop-at.invariant.bound)
+    }
 
 pub returns : goal.returns
 returns c =
