@@ -33,8 +33,8 @@ pub unified_keeps : (c u : ℕ) (after : Bool) (out more rest : List ℕ) → (c
 unfolding unified_from
 unified_keeps c u after out more rest e v m =
     rw m (append_assoc out (u ∷ []) (unified_from (c == 13) rest)
-      ∙ ap (λ t. out ++ t) (ap (λ x. x ∷ unified_from (c == 13) rest) v
-        ∙ sym (ap (λ b. if b then unified_from false rest else (if c == 13 then 10 else c) ∷ unified_from (c == 13) rest) e)))
+    ∙ ap (λ t. out ++ t) (ap (λ x. x ∷ unified_from (c == 13) rest) v
+    ∙ sym (ap (λ b. if b then unified_from false rest else (if c == 13 then 10 else c) ∷ unified_from (c == 13) rest) e)))
 
 pub unified_ends : (i : ℕ) (after : Bool) (units out : List ℕ) → length units ≤ i → out ++ unified_from after (drop i units) ≡ unified_from false units
     → out ≡ unified_from false units
@@ -68,7 +68,7 @@ first_case : (b : Bool) (c : ℕ) (units : List ℕ)
     → (line_length units < length units → lines units ≡ take (line_length units) units ∷ lines (drop (suc (line_length units)) units))
     → (if b then 0 else suc (line_length units)) < suc (length units)
     → (if b then [] ∷ lines units else beginning c (lines units))
-      ≡ take (if b then 0 else suc (line_length units)) (c ∷ units) ∷ lines (drop (suc (if b then 0 else suc (line_length units))) (c ∷ units))
+    ≡ take (if b then 0 else suc (line_length units)) (c ∷ units) ∷ lines (drop (suc (if b then 0 else suc (line_length units))) (c ∷ units))
 first_case true c units rest h = refl
 first_case false c units rest h = let less : line_length units < length units = omega (arith, h) in ap (beginning c) (rest less)
 
@@ -121,7 +121,7 @@ pub margin_line : (bound next : ℕ) (line units : List ℕ) → line ≡ take (
 unfolding margin
 margin_line bound next line units l h x =
     ap (λ n. margin n (lines (drop (line_length units + 1) units))) (x ∙ ap (λ b. if b then bound else min bound (indentation line))
-        (sym (ap (λ m. is_blank line && not m) (some_lines (drop (line_length units + 1) units)) ∙ and_true (is_blank line))))
+    (sym (ap (λ m. is_blank line && not m) (some_lines (drop (line_length units + 1) units)) ∙ and_true (is_blank line))))
     ∙ ap (λ t. margin bound (t ∷ lines (drop (line_length units + 1) units))) l
     ∙ ap (margin bound) (sym (first_line units h))
 
@@ -139,11 +139,11 @@ unfolding stripped
 stripped_line width line units out kept more l h k m =
     let rest = lines (drop (line_length units + 1) units) in
     rw (m, k) (
-      append_assoc (out ++ trimmed (drop width line)) (10 ∷ []) (stripped width rest)
-      ∙ append_assoc out (trimmed (drop width line)) (10 ∷ stripped width rest)
-      ∙ ap (λ t. out ++ (trimmed (drop width line) ++ t)) (sym (ap (λ b. if b then [] else 10 ∷ stripped width rest) (some_lines (drop (line_length units + 1) units))))
-      ∙ ap (λ t. out ++ stripped width (t ∷ rest)) l
-      ∙ ap (λ ls. out ++ stripped width ls) (sym (first_line units h)))
+    append_assoc (out ++ trimmed (drop width line)) (10 ∷ []) (stripped width rest)
+    ∙ append_assoc out (trimmed (drop width line)) (10 ∷ stripped width rest)
+    ∙ ap (λ t. out ++ (trimmed (drop width line) ++ t)) (sym (ap (λ b. if b then [] else 10 ∷ stripped width rest) (some_lines (drop (line_length units + 1) units))))
+    ∙ ap (λ t. out ++ stripped width (t ∷ rest)) l
+    ∙ ap (λ ls. out ++ stripped width ls) (sym (first_line units h)))
 
 -- trailing white space
 
@@ -162,7 +162,7 @@ trimmed_is (suc n) (c ∷ line) l b (inl e) = absurd (omega (arith, e))
 trimmed_is (suc n) (c ∷ line) l b (inr e) =
     let last : is_white (get_or (c ∷ line) n 0) ≡ false = rw (← sub_one n) e in
     sym (ap (λ t. if t then [] else c ∷ trimmed line) (not_blank n (c ∷ line) (omega (arith, l)) last)
-      ∙ ap (λ t. c ∷ t) (sym (trimmed_is n line (omega (arith, l)) b (before n c line last))))
+    ∙ ap (λ t. c ∷ t) (sym (trimmed_is n line (omega (arith, l)) b (before n c line last))))
   where
     before : (n c : ℕ) (line : List ℕ) → is_white (get_or (c ∷ line) n 0) ≡ false → (n ≡ 0) ⊎ (is_white (get_or line (n - 1) 0) ≡ false)
     before zero c line e = inl refl

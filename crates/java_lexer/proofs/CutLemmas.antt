@@ -48,7 +48,7 @@ enough (suc n) zero before (c ∷ units) h k = absurd (omega arith)
 enough (suc n) (suc m) before [] h k = refl
 enough (suc n) (suc m) before (c ∷ units) h k =
     same_further (piece_at (c ∷ units)) before (c ∷ units) n m (piece_not_empty (c ∷ units)) (λ more rest p q. enough n m more rest p q)
-      (omega arith) (omega arith)
+    (omega arith) (omega arith)
   where
     same_further : (piece : Option (ℕ × Kind)) (before units : List ℕ) (n m : ℕ) → IfSome piece (λ found. 0 < found.0)
         → ((more rest : List ℕ) → length rest ≤ n → length rest ≤ m → cut_up_to n more rest ≡ cut_up_to m more rest)
@@ -57,7 +57,7 @@ enough (suc n) (suc m) before (c ∷ units) h k =
     same_further None before units n m p further h k = refl
     same_further (Some piece) before units n m p further h k =
         ap (λ cut. with_token (token_of piece.1 (take piece.0 units)) (line_behind before) cut)
-          (further (before ++ take piece.0 units) (drop piece.0 units) (omega (arith, length-drop piece.0 units)) (omega (arith, length-drop piece.0 units)))
+        (further (before ++ take piece.0 units) (drop piece.0 units) (omega (arith, length-drop piece.0 units)) (omega (arith, length-drop piece.0 units)))
 
 -- the cut of what is left behind a place
 abbrev pub cut_at : ℕ → List ℕ → Cut
@@ -90,11 +90,11 @@ cut_step at n kind line tokens units h e p l =
     let some : length (drop at units) ≡ suc (length (drop at units) - 1) = omega (arith, length-drop at units) in
     let one = stepped (n, kind) (length (drop at units) - 1) (take at units) (drop at units) e some in
     let fuel = enough (length (drop at units) - 1) (length (drop n (drop at units))) (take at units ++ take n (drop at units)) (drop n (drop at units))
-        (omega (arith, length-drop n (drop at units), p, some)) (omega arith) in
+    (omega (arith, length-drop n (drop at units), p, some)) (omega arith) in
     token_first (token_of kind (take n (drop at units))) line tokens (cut_at (at + n) units)
     ∙ ap (behind_tokens tokens) (rw l (sym (one ∙ ap (with_token (token_of kind (take n (drop at units))) (line_behind (take at units)))
-        (fuel ∙ ap (λ rest. cut_up_to (length rest) (take at units ++ take n (drop at units)) rest) (drop_further at n units)
-          ∙ ap (λ before. cut_up_to (length (drop (at + n) units)) before (drop (at + n) units)) (take_further at n units)))))
+    (fuel ∙ ap (λ rest. cut_up_to (length rest) (take at units ++ take n (drop at units)) rest) (drop_further at n units)
+    ∙ ap (λ before. cut_up_to (length (drop (at + n) units)) before (drop (at + n) units)) (take_further at n units)))))
 
 -- no further piece
 pub cut_stops : (at : ℕ) (tokens : List Token) (units : List ℕ) → piece_at (drop at units) ≡ None

@@ -122,9 +122,9 @@ left-is : (items : List Item) (c : ℕ) (w : List ℕ) → is_spelled items (c �
 left-is [] c w = refl
 left-is (x ∷ items) c w =
     let here : is_cut (λ v. is_item x (c ∷ v)) (is_spelled items) w ≡ any_spells (continued (after x (symbol c)) items) w
-          = ap (λ (p : List ℕ → Bool). is_cut p (is_spelled items) w) (λ i v. after-is x c v i) ∙ continued-is (after x (symbol c)) items w in
+    = ap (λ (p : List ℕ → Bool). is_cut p (is_spelled items) w) (λ i v. after-is x c v i) ∙ continued-is (after x (symbol c)) items w in
     let later : (is_item x [] && is_spelled items (c ∷ w)) ≡ any_spells (if can_end x then left items (symbol c) else []) w
-          = ap (λ b. b && is_spelled items (c ∷ w)) (can_end-is x) ∙ ending (can_end x) items (symbol c) w _ (left-is items c w) in
+    = ap (λ b. b && is_spelled items (c ∷ w)) (can_end-is x) ∙ ending (can_end x) items (symbol c) w _ (left-is items c w) in
     ap (λ b. b || is_cut (λ v. is_item x (c ∷ v)) (is_spelled items) w) later
     ∙ ap (λ b. any_spells (if can_end x then left items (symbol c) else []) w || b) here
     ∙ or_comm (any_spells (if can_end x then left items (symbol c) else []) w) (any_spells (continued (after x (symbol c)) items) w)

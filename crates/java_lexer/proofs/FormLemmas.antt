@@ -140,8 +140,9 @@ below (suc k) = k ∷ below k
 pub same_below : {A : Type 0} (f g : ℕ → A) (k c : ℕ) → map f (below k) ≡ map g (below k) → c < k → f c ≡ g c
 same_below f g zero c e h = absurd (omega arith)
 same_below f g (suc k) c e h = elim (cases_lt c k) [
-    inl l ↦ same_below f g k c (cc) l
-  | inr l ↦ (let q : c ≡ k = omega arith in rw q (cc)) ]
+  | inl l ↦ same_below f g k c (cc) l
+  | inr l ↦ (let q : c ≡ k = omega arith in rw q (cc))
+]
 
 -- what is left behind each symbol
 abbrev pub row : List Production → List (List Production)

@@ -25,8 +25,8 @@ lexed_as : (bytes units : List ℕ) (whole : Bool) (cut : Cut) → units ≡ tex
 unfolding lexed
 lexed_as bytes units whole cut u w h =
     rw (← u, ← w) (ap (λ r. verdict_at r (cut_of units).tokens (line_behind (cut_of units).before) whole) (sym h.rest)
-      ∙ ap (λ ts. verdict_at (drop cut.at units) ts (line_behind (cut_of units).before) whole) (sym h.tokens)
-      ∙ ap (λ n. verdict_at (drop cut.at units) cut.tokens.items n whole) (line_is units cut h))
+    ∙ ap (λ ts. verdict_at (drop cut.at units) ts (line_behind (cut_of units).before) whole) (sym h.tokens)
+    ∙ ap (λ n. verdict_at (drop cut.at units) cut.tokens.items n whole) (line_is units cut h))
 
 -- the text can't be cut to its end
 pub no_token : (bytes units : List ℕ) (whole : Bool) (cut : Cut) → units ≡ text_of bytes → whole ≡ is_all_utf8 bytes → IsCut units cut → cut.at < length units

@@ -117,10 +117,10 @@ comment_found cs =
     ∙ ap (λ (kind : List ℕ → Option Kind). either (moved 1 (longest kind (42 ∷ cs))) (one (kind []))) (λ i w. derive-is comment 47 w i)
     ∙ ap (λ here. either (moved 1 (longest (kind_by (derive comment 47)) (42 ∷ cs))) (one here)) comment_slash
     ∙ ap (λ found. either (moved 1 found) None) (
-        longest_cons (kind_by (derive comment 47)) (length cs) 42 cs
-        ∙ ap (λ (kind : List ℕ → Option Kind). either (moved 1 (longest kind cs)) (one (kind []))) (λ i w. derive-is (derive comment 47) 42 w i)
-        ∙ ap (λ ps. either (moved 1 (longest (kind_by ps) cs)) (one (kind_by ps []))) comment_behind
-        ∙ ap (λ here. either (moved 1 (longest (kind_by (stands (form.Comment false))) cs)) (one here)) comment_opening)
+    longest_cons (kind_by (derive comment 47)) (length cs) 42 cs
+    ∙ ap (λ (kind : List ℕ → Option Kind). either (moved 1 (longest kind cs)) (one (kind []))) (λ i w. derive-is (derive comment 47) 42 w i)
+    ∙ ap (λ ps. either (moved 1 (longest (kind_by ps) cs)) (one (kind_by ps []))) comment_behind
+    ∙ ap (λ here. either (moved 1 (longest (kind_by (stands (form.Comment false))) cs)) (one here)) comment_opening)
     ∙ two_moved (longest (kind_by (stands (form.Comment false))) cs)
     ∙ ap (moved 2) (sym (scan_all (state.Other (form.Comment false)) cs ∙ ap (λ (kind : List ℕ → Option Kind). longest kind cs) (λ i w. comment_is w i)))
 
@@ -134,7 +134,7 @@ comment_scanned (c ∷ d ∷ cs) e h =
     let slash : c ≡ 47 = grind (arith, e) in
     let star : d ≡ 42 = grind (arith, e) in
     sym (ap (λ b. if b then longest (kind_by comment) (c ∷ d ∷ cs) else longest kind_of (c ∷ d ∷ cs)) e
-        ∙ rw (slash, star) (comment_found cs))
+    ∙ rw (slash, star) (comment_found cs))
 
 opened : (i : ℕ) (units : List ℕ) → i < length units → drop i units ≡ get_or units i 0 ∷ drop (i + 1) units
 opened i units h = rw (add-one, drop-cons units i 0) refl

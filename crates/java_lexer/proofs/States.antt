@@ -67,8 +67,9 @@ ascii_letter c h e = ap (λ b. if b then first_form c else None) (sym e) ∙ sam
 -- no other piece begins as a word does
 letter_first : (c : ℕ) → is_start c ≡ true → first_form (symbol c) ≡ None
 letter_first c e = elim (cases_lt c 128) [
-    inl h ↦ (let same : symbol c ≡ c = omega arith in rw same (ascii_letter c h (sym (ascii_start c h) ∙ e)))
-  | inr h ↦ (let far : symbol c ≡ 128 = omega arith in rw far refl) ]
+  | inl h ↦ (let same : symbol c ≡ c = omega arith in rw same (ascii_letter c h (sym (ascii_start c h) ∙ e)))
+  | inr h ↦ (let far : symbol c ≡ 128 = omega arith in rw far refl)
+]
 
 high_first : (c : ℕ) → is_high_surrogate c ≡ true → first_form (symbol c) ≡ None
 high_first c e = let far : symbol c ≡ 128 = grind (arith, e) in rw far refl

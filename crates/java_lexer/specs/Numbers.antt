@@ -12,8 +12,8 @@ abbrev pub radix : List ℕ → ℕ
 radix units = let second = slice_index units 1 in
     if slice_index units 0 == 48
     then (if second == 120 || second == 88 then 16
-      else (if second == 98 || second == 66 then 2
-      else (if (nat_le 48 second && nat_le second 57) || second == 95 then 8 else 10)))
+    else (if second == 98 || second == 66 then 2
+    else (if (nat_le 48 second && nat_le second 57) || second == 95 then 8 else 10)))
     else 10
 
 -- the digits and what stands among or behind them, without 0x or 0b

@@ -9,6 +9,7 @@ use java_text::{is_white, modified_utf8};
 use std::alloc::Global;
 
 const LINE_FEED: u16 = 0x0A;
+
 const RETURN: u16 = 0x0D;
 
 /// The text that a text block stands for.

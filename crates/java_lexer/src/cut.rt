@@ -12,6 +12,7 @@ use java_token::Token;
 use std::alloc::Global;
 
 const LINE_FEED: u16 = 0x0A;
+
 const RETURN: u16 = 0x0D;
 
 /// How far a text can be cut into pieces.
@@ -46,7 +47,13 @@ pub fn cut_pieces(alloc: Global, units: &[u16]) -> Result<Cut, Memory>
             }
             Some((length, kind)) => {
                 let piece = &units[at..at + length];
-                push_token(alloc, &mut tokens, kind, piece, (place.line_ends + 1) as u32)?;
+                push_token(
+                    alloc,
+                    &mut tokens,
+                    kind,
+                    piece,
+                    (place.line_ends + 1) as u32,
+                )?;
                 place = place.behind(piece);
                 at += length;
             }
@@ -106,7 +113,11 @@ impl Place {
     {
         let ends = unit == RETURN || unit == LINE_FEED && !self.after_return;
         Place {
-            line_ends: if ends { self.line_ends + 1 } else { self.line_ends },
+            line_ends: if ends {
+                self.line_ends + 1
+            } else {
+                self.line_ends
+            },
             after_return: unit == RETURN,
         }
     }

@@ -12,10 +12,14 @@ mod kind;
 mod lexer;
 mod number;
 mod quoted;
+#[cfg(test)]
+mod rows;
 mod standing;
 mod state;
+#[cfg(test)]
+mod tests;
 mod token;
 
 pub use fault::{LexErr, LexFault, LexKind};
-pub use lexer::Lexer;
 pub use java_token::{Kw, LexLit, OpTok, Token, TokenKind};
+pub use lexer::Lexer;

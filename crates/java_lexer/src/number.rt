@@ -51,10 +51,8 @@ impl Number {
         match self {
             Number::Zero => after_zero(symbol),
             Number::Octal | Number::OctalGap => self.after_octal(symbol),
-            Number::Digits
-            | Number::DigitsGap
-            | Number::Decimal
-            | Number::DecimalGap => self.after_decimal(symbol),
+            Number::Digits | Number::DigitsGap | Number::Decimal | Number::DecimalGap =>
+                self.after_decimal(symbol),
             Number::Point | Number::Fraction | Number::FractionGap => self.after_point(symbol),
             Number::Exponent
             | Number::ExponentSign
@@ -103,11 +101,21 @@ impl Number {
     {
         match self {
             Number::Digits => {
-                run(symbol, Number::Digits, Number::DigitsGap, after_digits(symbol))
+                run(
+                    symbol,
+                    Number::Digits,
+                    Number::DigitsGap,
+                    after_digits(symbol),
+                )
             }
             Number::DigitsGap => run(symbol, Number::Digits, Number::DigitsGap, None),
             Number::Decimal => {
-                run(symbol, Number::Decimal, Number::DecimalGap, after_integer_digits(symbol))
+                run(
+                    symbol,
+                    Number::Decimal,
+                    Number::DecimalGap,
+                    after_integer_digits(symbol),
+                )
             }
             _ => run(symbol, Number::Decimal, Number::DecimalGap, None),
         }
@@ -125,7 +133,12 @@ impl Number {
                 }
             }
             Number::Fraction => {
-                run(symbol, Number::Fraction, Number::FractionGap, after_fraction(symbol))
+                run(
+                    symbol,
+                    Number::Fraction,
+                    Number::FractionGap,
+                    after_fraction(symbol),
+                )
             }
             _ => run(symbol, Number::Fraction, Number::FractionGap, None),
         }
@@ -144,7 +157,12 @@ impl Number {
             }
             Number::ExponentSign => exponent_digit(symbol),
             Number::ExponentDigits => {
-                run(symbol, Number::ExponentDigits, Number::ExponentGap, after_exponent_digits(symbol))
+                run(
+                    symbol,
+                    Number::ExponentDigits,
+                    Number::ExponentGap,
+                    after_exponent_digits(symbol),
+                )
             }
             _ => run(symbol, Number::ExponentDigits, Number::ExponentGap, None),
         }

@@ -216,5 +216,8 @@ fn begins_escape(symbol: u8) -> bool
     ensures { result ≡ machine.begins_escape symbol }
 {
     is_octal(symbol)
-        || matches!(symbol, b'b' | b's' | b't' | b'n' | b'f' | b'r' | b'"' | b'\'' | b'\\')
+        || matches!(
+            symbol,
+            b'b' | b's' | b't' | b'n' | b'f' | b'r' | b'"' | b'\'' | b'\\'
+        )
 }

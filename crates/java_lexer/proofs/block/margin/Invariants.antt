@@ -6,7 +6,7 @@ use Rattle.java_lexer.proofs.block.margin.Given as goal
 abbrev pub invariant-lines : goal.invariant-lines
 invariant-lines l = record {
   least : margin l.bound (lines (drop l.at l.content)) ≡ margin (length l.content) (lines l.content);
-  within : l.at ≤ length l.content
+  within : l.at ≤ length l.content;
 }
 
 abbrev pub decreases-lines : goal.decreases-lines

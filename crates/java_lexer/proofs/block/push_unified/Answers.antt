@@ -12,6 +12,7 @@ returns-then-after_return c = λ rest.
 pub returns : goal.returns
 returns c = λ rest.
     let test : (c.args.unit == 10 && c.args.after_return) ≡ false = elim c.else-unit-eq-LINE_FEED.branch [
-        else-unit-eq-LINE_FEED-via-then-unit-eq-LINE_FEED+else-after_return w ↦ grind (arith, common_steps)
-      | else-unit-eq-LINE_FEED-via-else-unit-eq-LINE_FEED w ↦ grind (arith, common_steps) ] in
+      | else-unit-eq-LINE_FEED-via-then-unit-eq-LINE_FEED+else-after_return w ↦ grind (arith, common_steps)
+      | else-unit-eq-LINE_FEED-via-else-unit-eq-LINE_FEED w ↦ grind (arith, common_steps)
+    ] in
     unified_keeps c.args.unit _ c.args.after_return _ _ rest test c.unified_unit.ensures c.in_ok-push.ensures.items

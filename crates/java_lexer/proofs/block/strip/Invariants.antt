@@ -6,7 +6,7 @@ use Rattle.java_lexer.proofs.block.strip.Given as goal
 abbrev pub invariant-lines : goal.invariant-lines
 invariant-lines l = record {
   text : l.stripped.items ++ stripped l.width (lines (drop l.at l.content)) ≡ stripped l.width (lines l.content);
-  within : l.at ≤ length l.content
+  within : l.at ≤ length l.content;
 }
 
 abbrev pub decreases-lines : goal.decreases-lines

@@ -6,7 +6,7 @@ use Rattle.java_lexer.proofs.block.trim.Given as goal
 abbrev pub invariant-loop-end : goal.invariant-loop-end
 invariant-loop-end l = record {
   blank : is_blank (drop l.end l.line) ≡ true;
-  within : l.end ≤ length l.line
+  within : l.end ≤ length l.line;
 }
 
 abbrev pub decreases-loop-end : goal.decreases-loop-end

@@ -7,12 +7,12 @@ use Rattle.java_lexer.proofs.cut.cut_pieces.Goals as goal
 pub loop-at-init : goal.loop-at-init
 unfolding line_ends ends_in_return
 loop-at-init c = record {
-    whole = rw c.new-tokens.ensures.items refl;
-    within = omega arith;
-    ends = refl;
-    last = refl;
-    bound = omega arith
-  }
+  whole = rw c.new-tokens.ensures.items refl;
+  within = omega arith;
+  ends = refl;
+  last = refl;
+  bound = omega arith;
+}
 
 pub returns-in-None : goal.returns-in-None
 returns-in-None c =
@@ -23,7 +23,7 @@ returns-in-None c =
       rest = ap (λ (x : Cut). x.rest) same;
       within = c.loop-at.invariant.within;
       counted = c.loop-at.invariant.ends;
-      bound = c.loop-at.invariant.bound
+      bound = c.loop-at.invariant.bound;
     }
 
 pub loop-at-preserved : goal.loop-at-preserved
@@ -36,12 +36,12 @@ loop-at-preserved c =
     let room = simp take_rest at c.in-Some.ensures.within in
     record {
       whole = ap (λ tokens. behind_tokens tokens (cut_at (at + n) units)) (rw same at c.in_ok-push_token-in-Some.ensures)
-        ∙ cut_step at n c.in-Some.kind _ c.loop-at.tokens.items units c.loop-at-test.true (sym (simp take_rest at c.in-Some.ensures.value)) c.in-Some.ensures.progress line
-        ∙ c.loop-at.invariant.whole;
+          ∙ cut_step at n c.in-Some.kind _ c.loop-at.tokens.items units c.loop-at-test.true (sym (simp take_rest at c.in-Some.ensures.value)) c.in-Some.ensures.progress line
+          ∙ c.loop-at.invariant.whole;
       within = omega (arith, room, length-drop at units, c.loop-at.invariant.within);
       ends = (rw same at c.behind-place.ensures.ends) ∙ rw (c.loop-at.invariant.ends, c.loop-at.invariant.last) (sym (line_ends_further at n units));
       last = (rw same at c.behind-place.ensures.last) ∙ rw c.loop-at.invariant.last (sym (ends_in_return_further at n units));
-      bound = omega (arith, rw same at c.behind-place.ensures.bound, length-take n (drop at units), c.loop-at.invariant.bound)
+      bound = omega (arith, rw same at c.behind-place.ensures.bound, length-take n (drop at units), c.loop-at.invariant.bound);
     }
 
 pub returns : goal.returns
@@ -53,5 +53,5 @@ returns c =
       rest = ap (λ (x : Cut). x.rest) same;
       within = c.loop-at.invariant.within;
       counted = c.loop-at.invariant.ends;
-      bound = c.loop-at.invariant.bound
+      bound = c.loop-at.invariant.bound;
     }

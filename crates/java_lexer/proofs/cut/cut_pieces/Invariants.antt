@@ -10,7 +10,7 @@ invariant-loop-at l = record {
   within : l.at ≤ length l.units;
   ends : l.place.line_ends ≡ line_ends false (take l.at l.units);
   last : l.place.after_return ≡ ends_in_return false (take l.at l.units);
-  bound : l.place.line_ends ≤ l.at
+  bound : l.place.line_ends ≤ l.at;
 }
 
 abbrev pub decreases-loop-at : goal.decreases-loop-at

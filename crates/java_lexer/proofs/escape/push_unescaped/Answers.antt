@@ -13,11 +13,12 @@ returns-then-unit-ne-BACKSLASH c =
 
 pub returns : goal.returns
 returns c = elim c.if-at.branch [
-    then-at+in_ok-push-2 w ↦ rw w.plain-is (replaced c.args.unit _ _ _ c.args.after.now
+  | then-at+in_ok-push-2 w ↦ rw w.plain-is (replaced c.args.unit _ _ _ c.args.after.now
       (w.in_ok-push-2.ensures.items ∙ ap (λ t. c.args.plain.now.items ++ t)
-        (ap (λ x. x ∷ []) w.escape_value.ensures ∙ one_unit c.args.after.now (differs _ _ (rw c.at.ensures at w.if-at.true))))
+      (ap (λ x. x ∷ []) w.escape_value.ensures ∙ one_unit c.args.after.now (differs _ _ (rw c.at.ensures at w.if-at.true))))
       (eq-eqb c.args.unit 92 c.if-unit-ne-BACKSLASH.false) c.escape_length.ensures)
   | else-at w ↦ rw w.plain-is (replaced c.args.unit _ _ _ c.args.after.now
       (sym (append-nil c.args.plain.now.items) ∙ ap (λ t. c.args.plain.now.items ++ t)
-        (no_unit c.args.after.now (eq-eqb _ 10 (sym c.at.ensures ∙ w.if-at.false))))
-      (eq-eqb c.args.unit 92 c.if-unit-ne-BACKSLASH.false) c.escape_length.ensures) ]
+      (no_unit c.args.after.now (eq-eqb _ 10 (sym c.at.ensures ∙ w.if-at.false))))
+      (eq-eqb c.args.unit 92 c.if-unit-ne-BACKSLASH.false) c.escape_length.ensures)
+]

@@ -6,5 +6,5 @@ use Rattle.java_lexer.proofs.integer.number.Given as goal
 abbrev pub invariant-loop-unit : goal.invariant-loop-unit
 invariant-loop-unit l = record {
   read : number_behind l.radix l.number (drop l.unit-index l.units) ≡ number_behind l.radix 0 l.units;
-  fits : l.number < 2 ^ 64
+  fits : l.number < 2 ^ 64;
 }

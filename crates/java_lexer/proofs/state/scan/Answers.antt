@@ -12,13 +12,14 @@ returns-clause-value c = scan_ends _ _ _ c.args.units.now c.loop-index-test.fals
 
 pub loop-index-preserved : goal.loop-index-preserved
 loop-index-preserved c = elim c.match-kind.branch [
-    in-Some-kind w ↦ record {
-      answer = scan_more _ _ _ _ _ c.args.units.now c.loop-index-test.true (sym c.in-Some.ensures)
+  | in-Some-kind w ↦ record {
+    answer = scan_more _ _ _ _ _ c.args.units.now c.loop-index-test.true (sym c.in-Some.ensures)
         (w.best-is ∙ ap (λ k. better (c.loop-index.index + 1) k c.loop-index.best) w.in-Some-kind.ensures) ∙ c.loop-index.invariant.answer;
-      within = rw w.best-is (omega arith)
-    }
+    within = rw w.best-is (omega arith);
+  }
   | in-None-kind w ↦ record {
-      answer = scan_more _ _ _ _ _ c.args.units.now c.loop-index-test.true (sym c.in-Some.ensures)
+    answer = scan_more _ _ _ _ _ c.args.units.now c.loop-index-test.true (sym c.in-Some.ensures)
         (w.best-is ∙ ap (λ k. better (c.loop-index.index + 1) k c.loop-index.best) w.in-None-kind.ensures) ∙ c.loop-index.invariant.answer;
-      within = rw w.best-is (within_more c.loop-index.best c.loop-index.index c.loop-index.invariant.within)
-    } ]
+    within = rw w.best-is (within_more c.loop-index.best c.loop-index.index c.loop-index.invariant.within);
+  }
+]

@@ -6,5 +6,5 @@ use Rattle.java_lexer.proofs.state.scan.Given as goal
 abbrev pub invariant-loop-index : goal.invariant-loop-index
 invariant-loop-index l = record {
   answer : scan l.state l.index l.best (drop l.index l.units) ≡ scan l.fn.start 0 None l.units;
-  within : IfSome l.best (λ found. found.0 ≤ l.index)
+  within : IfSome l.best (λ found. found.0 ≤ l.index);
 }

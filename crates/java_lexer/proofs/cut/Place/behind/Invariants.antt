@@ -7,5 +7,5 @@ abbrev pub invariant-loop-unit : goal.invariant-loop-unit
 invariant-loop-unit l = record {
   ends : l.place.line_ends + line_ends l.place.after_return (drop l.unit-index l.units) ≡ l.fn.self.line_ends + line_ends l.fn.self.after_return l.units;
   last : ends_in_return l.place.after_return (drop l.unit-index l.units) ≡ ends_in_return l.fn.self.after_return l.units;
-  bound : l.place.line_ends ≤ l.fn.self.line_ends + l.unit-index
+  bound : l.place.line_ends ≤ l.fn.self.line_ends + l.unit-index;
 }
