@@ -1,14 +1,14 @@
 -- The loop that cuts a text follows its cut.
-use Rattle.std.proofs.Common.{◌≡◌, ℕ, zero, suc, ◌+◌, ◌-◌, ◌<◌, ◌≤◌, Bool, true, false, ◌&&◌, ◌||◌, not, ◌==◌, List, [], ◌∷◌, ◌++◌, length, take, drop, get_or, Option, Some, None, IfSome, refl, sym, ◌∙◌, ap, subst, append_assoc, append-nil, add-one, drop-cons, length-drop, arith, if◌then◌else◌}
+use Rattle.std.proofs.Common.{◌≡◌, ℕ, zero, suc, ◌+◌, ◌-◌, ◌<◌, ◌≤◌, Bool, true, false, ◌&&◌, ◌||◌, not, ◌==◌, List, [], ◌∷◌, ◌++◌, length, take, drop, get_or, Option, Some, None, IfSome, refl, sym, ◌∙◌, ap, append_assoc, append-nil, add-one, drop-cons, length-drop, arith, if◌then◌else◌}
 use Rattle.std.proofs.lemmas.List.{drop_all, drop-drop}
 use Rattle.std.proofs.Math.Seq.{take-add}
 use Rattle.java_token.specs.declared.token.Token.{Token}
 use Rattle.java_token.specs.declared.token.TokenKind.{TokenKind}
 use Rattle.java_lexer.specs.declared.kind.Kind.{Kind}
-use Rattle.java_lexer.specs.Pieces.{kind_of, longest, longest_up_to, or_shorter, piece_at, opens_comment}
+use Rattle.java_lexer.specs.Pieces.{kind_of, longest_up_to, or_shorter, piece_at, opens_comment}
 use Rattle.java_lexer.specs.Grammar.{kind_by, comment}
 use Rattle.java_lexer.specs.Tokens.{token_of}
-use Rattle.java_lexer.specs.Lexing.{Cut, with_token, ended, with_piece, cut_up_to, cut_of, line_behind, line_ends, ends_in_return, tokens_at}
+use Rattle.java_lexer.specs.Lexing.{Cut, with_token, ended, with_piece, cut_up_to, line_behind, line_ends, ends_in_return, tokens_at}
 
 -- a longest piece is not empty
 some_front : (kind : List ℕ → Option Kind) (n : ℕ) (units : List ℕ) → IfSome (longest_up_to kind n units) (λ found. 0 < found.0)

@@ -1,7 +1,7 @@
 -- What is left of productions behind a unit. A unit counts by its symbol alone.
-use Rattle.std.proofs.Common.{◌≡◌, ℕ, zero, suc, Bool, true, false, ◌&&◌, ◌||◌, not, ◌==◌, List, [], ◌∷◌, ◌++◌, map, Option, Some, None, if◌then◌else◌, refl, sym, ◌∙◌, ap}
+use Rattle.std.proofs.Common.{◌≡◌, ℕ, suc, Bool, true, false, ◌&&◌, ◌||◌, not, ◌==◌, List, [], ◌∷◌, ◌++◌, Option, Some, if◌then◌else◌, refl, sym, ◌∙◌, ap}
 use Rattle.java_lexer.specs.declared.kind.Kind.{Kind}
-use Rattle.java_lexer.specs.Grammar.{symbol, Units, Within, Except, holds, has, Item, One, Maybe, Many, Tail, StringTail, BlockTail, CommentTail, is_empty, line_ends, any_of, octal_digit, simple_escape, begins_escape, is_item, is_tail, is_string_tail, is_block_tail, is_comment_tail, is_one, is_cut, is_spelled, Production, kind_by}
+use Rattle.java_lexer.specs.Grammar.{symbol, Except, holds, has, Item, One, Maybe, Many, Tail, StringTail, BlockTail, CommentTail, is_empty, line_ends, any_of, octal_digit, simple_escape, begins_escape, is_item, is_cut, is_spelled, Production, kind_by}
 
 -- behind a symbol an item can't stand, or is over, or goes on as another
 pub data After : Type 0 where

@@ -1,7 +1,6 @@
 -- One step of replacing escapes: `out` is what came before, `more` what it becomes.
-use Rattle.std.proofs.Common.{◌≡◌, ℕ, zero, suc, ◌+◌, ◌-◌, ◌<◌, ◌≤◌, Bool, true, false, ◌==◌, List, [], ◌∷◌, ◌++◌, length, drop, get_or, slice_index, refl, sym, ◌∙◌, ap, append_assoc, append-nil, ◌≢◌, drop-cons, add-one, arith, if◌then◌else◌}
+use Rattle.std.proofs.Common.{◌≡◌, ℕ, zero, suc, ◌+◌, ◌-◌, ◌<◌, ◌≤◌, true, false, ◌==◌, List, [], ◌∷◌, ◌++◌, length, drop, get_or, slice_index, refl, sym, ◌∙◌, ap, append_assoc, append-nil, ◌≢◌, drop-cons, add-one, arith, if◌then◌else◌}
 use Rattle.std.proofs.lemmas.List.{drop_all}
-use Rattle.std.proofs.lemmas.Bool.{eq-eqb}
 use Rattle.java_lexer.specs.Escapes.{unescaped_from, escape_units, escape_length, escape_value}
 
 pub opened : (i : ℕ) (units : List ℕ) → i < length units → drop i units ≡ get_or units i 0 ∷ drop (i + 1) units

@@ -1,17 +1,16 @@
 -- What each form of the machine stands for: what the grammar leaves behind some text.
-use Rattle.std.proofs.Common.{◌≡◌, ℕ, zero, suc, ◌<◌, Bool, true, false, List, [], ◌∷◌, ◌++◌, map, codes, Option, Some, None, refl, arith, inl, inr}
+use Rattle.std.proofs.Common.{◌≡◌, ℕ, zero, suc, ◌<◌, Bool, true, false, List, [], ◌∷◌, map, codes, Option, Some, None, refl, arith, inl, inr}
 use Rattle.std.proofs.lemmas.Bool.{cases_lt}
 use Rattle.java_token.specs.declared.operator.OpTok.{OpTok}
 use Rattle.java_token.specs.declared.operator.OpTok.TheVariants as op
 use Rattle.java_lexer.specs.declared.kind.Kind.{Kind}
-use Rattle.java_lexer.specs.declared.kind.Kind.TheVariants as kind
 use Rattle.java_lexer.specs.declared.form.Form.{Form}
 use Rattle.java_lexer.specs.declared.form.Form.TheVariants as form
 use Rattle.java_lexer.specs.declared.number.Number.{Number}
 use Rattle.java_lexer.specs.declared.number.Number.TheVariants as number
 use Rattle.java_lexer.specs.declared.quoted.Quoted.{Quoted}
 use Rattle.java_lexer.specs.declared.quoted.Quoted.TheVariants as quoted
-use Rattle.java_lexer.specs.Grammar.{Production, Item, kind_by, grammar, comment}
+use Rattle.java_lexer.specs.Grammar.{Production, kind_by, grammar, comment}
 use Rattle.java_lexer.specs.Machine.{next_form, first_form, form_kind}
 use Rattle.java_lexer.proofs.Derive.{derive}
 

@@ -1,12 +1,11 @@
 -- What the cut of a text says of its bytes.
-use Rattle.std.proofs.Common.{◌≡◌, ℕ, suc, ◌+◌, ◌<◌, ◌≤◌, Bool, true, false, List, [], ◌∷◌, length, take, drop, Result, Ok, Err, refl, sym, ◌∙◌, ap, arith, length-drop}
+use Rattle.std.proofs.Common.{◌≡◌, ℕ, ◌+◌, ◌<◌, ◌≤◌, Bool, true, false, List, [], ◌∷◌, length, drop, Ok, Err, refl, sym, ◌∙◌, ap, arith, length-drop}
 use Rattle.std.proofs.lemmas.List.{drop_all}
 use Rattle.java_token.specs.declared.token.Token.{Token}
 use Rattle.java_text.specs.Source.{text_of, is_all_utf8}
-use Rattle.java_lexer.specs.declared.fault.LexFault.{LexFault}
 use Rattle.java_lexer.specs.declared.fault.LexKind.TheVariants.{Utf8, NoToken}
 use Rattle.java_lexer.specs.declared.cut.Cut.{Cut}
-use Rattle.java_lexer.specs.Lexing.{cut_of, verdict, verdict_at, line_behind, line_ends, lexed}
+use Rattle.java_lexer.specs.Lexing.{cut_of, verdict_at, line_behind, line_ends, lexed}
 use Rattle.java_lexer.specs.Cutting.{IsCut}
 
 left : (rest : List ℕ) (tokens : List Token) (line : ℕ) (whole : Bool) → 0 < length rest → verdict_at rest tokens line whole ≡ Err (record { line = line; kind = NoToken })

@@ -1,5 +1,5 @@
 -- What each state of the machine stands for.
-use Rattle.std.proofs.Common.{◌≡◌, ℕ, zero, suc, ◌+◌, ◌<◌, ◌≤◌, min, Bool, true, false, ◌&&◌, List, [], ◌∷◌, map, Option, Some, None, if◌then◌else◌, refl, sym, ◌∙◌, ap, arith, inl, inr}
+use Rattle.std.proofs.Common.{◌≡◌, ℕ, ◌<◌, Bool, true, false, ◌&&◌, List, [], ◌∷◌, map, Option, Some, None, if◌then◌else◌, refl, sym, ◌∙◌, ap, arith, inl, inr}
 use Rattle.std.proofs.lemmas.Bool.{cases_lt}
 use Rattle.std.specs.Char.Utf16.{is_high_surrogate, is_low_surrogate, surrogate_pair_char}
 use Rattle.java_text.specs.Letters.{is_start, is_part, is_ascii_start}
@@ -9,11 +9,11 @@ use Rattle.java_lexer.specs.declared.kind.Kind.TheVariants as kind
 use Rattle.java_lexer.specs.declared.form.Form.{Form}
 use Rattle.java_lexer.specs.declared.state.State.{State}
 use Rattle.java_lexer.specs.declared.state.State.TheVariants as state
-use Rattle.java_lexer.specs.Grammar.{symbol, Production, kind_by, grammar, comment}
+use Rattle.java_lexer.specs.Grammar.{symbol, kind_by, grammar}
 use Rattle.java_lexer.specs.Words.{is_word, is_word_behind, are_parts}
 use Rattle.java_lexer.specs.Pieces.{kind_of}
-use Rattle.java_lexer.specs.Machine.{next_state, next_form, first_form, form_kind, state_kind, other}
-use Rattle.java_lexer.proofs.Derive.{derive, derive-is}
+use Rattle.java_lexer.specs.Machine.{next_state, next_form, first_form, state_kind, other}
+use Rattle.java_lexer.proofs.Derive.{derive-is}
 use Rattle.java_lexer.proofs.FormLemmas.{stands, stands_if, next-stands, first-stands, kind-stands, same_below, below}
 
 abbrev pub word_if : Bool → Option Kind

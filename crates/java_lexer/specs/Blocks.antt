@@ -1,5 +1,5 @@
 -- What a text block stands for (JLS 3.10.6), in UTF-16 units.
-use Rattle.std.specs.Prelude.{ℕ, suc, ◌+◌, ◌-◌, Bool, true, false, ◌&&◌, not, ◌==◌, List, [], ◌∷◌, ◌++◌, length, take, drop, min, take_while, if◌then◌else◌}
+use Rattle.std.specs.Prelude.{ℕ, suc, ◌-◌, Bool, true, false, ◌&&◌, not, ◌==◌, List, [], ◌∷◌, ◌++◌, length, take, drop, min, take_while, if◌then◌else◌}
 use Rattle.std.specs.List.{list_all}
 use Rattle.java_text.specs.Letters.{is_white}
 use Rattle.java_lexer.specs.Escapes.{unescaped}

@@ -1,5 +1,5 @@
 -- What the characters of a literal stand for (JLS 3.10.7), in UTF-16 units.
-use Rattle.std.specs.Prelude.{ℕ, zero, suc, ◌+◌, ◌-◌, ◌*◌, Bool, true, false, ◌&&◌, ◌||◌, ◌==◌, nat_le, List, [], ◌∷◌, ◌++◌, slice_index, length, take, drop, if◌then◌else◌}
+use Rattle.std.specs.Prelude.{ℕ, zero, suc, ◌+◌, ◌-◌, ◌*◌, Bool, ◌&&◌, ◌==◌, nat_le, List, [], ◌∷◌, ◌++◌, slice_index, length, take, drop, if◌then◌else◌}
 
 abbrev pub is_octal_digit : ℕ → Bool
 is_octal_digit c = nat_le 48 c && nat_le c 55

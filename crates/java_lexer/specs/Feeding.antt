@@ -40,3 +40,7 @@ fed_more old piece tokens = record { fed = old.fed ++ piece; told = old.told ++ 
 -- the text has ended, and these tokens are told
 abbrev pub finished : Fed → List Token → Fed
 finished old tokens = record { fed = old.fed; told = old.told ++ tokens; standing = standing.Finished }
+
+-- the lexer answers this for good
+abbrev pub refused : Fed → LexErr → Fed
+refused old e = record { fed = old.fed; told = old.told; standing = standing.Refused e }

@@ -1,7 +1,7 @@
 -- The lexical grammar of JLS 3.6, 3.7, 3.10, 3.11 and 3.12: productions, each a sequence of items. A
 -- production spells a list of units where the list is cut into parts that its items spell, one after
 -- the other. Identifiers (JLS 3.8) are in Words, traditional comments in `comment` below.
-use Rattle.std.specs.Prelude.{ℕ, zero, suc, Bool, true, false, ◌&&◌, ◌||◌, not, ◌==◌, nat_le, List, [], ◌∷◌, ◌++◌, map, min, codes, Option, Some, None, if◌then◌else◌}
+use Rattle.std.specs.Prelude.{ℕ, suc, Bool, true, false, ◌&&◌, ◌||◌, not, ◌==◌, nat_le, List, [], ◌∷◌, ◌++◌, map, min, codes, Option, Some, None, if◌then◌else◌}
 use Rattle.std.specs.List.{list_any, list_all}
 use Rattle.java_token.specs.declared.operator.OpTok.{OpTok}
 use Rattle.java_token.specs.declared.operator.OpTok.TheVariants as op

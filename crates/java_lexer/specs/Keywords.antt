@@ -1,5 +1,5 @@
 -- The keywords, and the literals `true`, `false` and `null` (JLS 3.9, 3.10.3, 3.10.8).
-use Rattle.std.specs.Prelude.{ℕ, Bool, List, [], ◌∷◌, codes, nat_eq, Option, Some, None, if◌then◌else◌}
+use Rattle.std.specs.Prelude.{ℕ, List, [], ◌∷◌, codes, nat_eq, Option, Some, None, if◌then◌else◌}
 use lib.Pointwise.{pointwise}
 use Rattle.java_token.specs.declared.keyword.Kw.{Kw}
 use Rattle.java_token.specs.declared.keyword.Kw.TheVariants as kw

@@ -1,11 +1,10 @@
 -- The tokens of a text, and of the bytes of a source.
-use Rattle.std.specs.Prelude.{◌≡◌, ℕ, zero, suc, ◌+◌, Bool, true, false, ◌&&◌, ◌||◌, not, ◌==◌, List, [], ◌∷◌, ◌++◌, length, take, drop, Option, Some, None, Result, Ok, Err, if◌then◌else◌}
+use Rattle.std.specs.Prelude.{ℕ, zero, suc, ◌+◌, Bool, false, ◌&&◌, ◌||◌, not, ◌==◌, List, [], ◌∷◌, ◌++◌, length, take, drop, Option, Some, None, Result, Ok, Err, if◌then◌else◌}
 use Rattle.java_token.specs.declared.token.Token.{Token}
 use Rattle.java_token.specs.declared.token.TokenKind.{TokenKind}
 use Rattle.java_text.specs.Source.{text_of, is_all_utf8}
 use Rattle.java_lexer.specs.declared.kind.Kind.{Kind}
 use Rattle.java_lexer.specs.declared.fault.LexFault.{LexFault}
-use Rattle.java_lexer.specs.declared.fault.LexKind.{LexKind}
 use Rattle.java_lexer.specs.declared.fault.LexKind.TheVariants.{Utf8, NoToken}
 use Rattle.java_lexer.specs.Pieces.{piece_at}
 use Rattle.java_lexer.specs.Tokens.{token_of}

@@ -1,5 +1,5 @@
 -- The machine that goes over a piece unit by unit. Only contracts of private functions cite it.
-use Rattle.std.specs.Prelude.{ℕ, ◌+◌, min, List, [], ◌∷◌, Bool, true, false, ◌&&◌, ◌||◌, ◌==◌, nat_le, Option, Some, None, if◌then◌else◌}
+use Rattle.std.specs.Prelude.{ℕ, ◌+◌, min, List, [], ◌∷◌, Bool, ◌&&◌, ◌||◌, ◌==◌, nat_le, Option, Some, None, if◌then◌else◌}
 use Rattle.java_token.specs.declared.operator.OpTok.{OpTok}
 use Rattle.java_token.specs.declared.operator.OpTok.TheVariants as op
 use Rattle.java_lexer.specs.declared.kind.Kind.{Kind}

@@ -1,5 +1,5 @@
 -- What numbers stand for (JLS 3.10.1, 3.10.2).
-use Rattle.std.specs.Prelude.{ℕ, ◌+◌, ◌*◌, ◌-◌, ◌^◌, Bool, true, false, ◌&&◌, ◌||◌, not, ◌==◌, nat_le, nat_lt, List, [], ◌∷◌, slice_index, length, drop, Option, Some, None, if◌then◌else◌}
+use Rattle.std.specs.Prelude.{ℕ, ◌+◌, ◌*◌, ◌-◌, ◌^◌, Bool, ◌&&◌, ◌||◌, not, ◌==◌, nat_le, nat_lt, List, [], ◌∷◌, slice_index, length, drop, Option, Some, None, if◌then◌else◌}
 use Rattle.java_text.specs.Source.{is_hex_digit, hex_value}
 use Rattle.java_token.specs.declared.token.LexLit.{LexLit}
 use Rattle.java_token.specs.declared.token.LexLit.TheVariants.{Int, Real}

@@ -1,5 +1,5 @@
 -- Which pieces a text has, by longest match (JLS 3.2).
-use Rattle.std.specs.Prelude.{ℕ, zero, suc, Bool, true, false, List, [], ◌∷◌, length, take, Option, Some, None, slice_index, ◌&&◌, ◌==◌, if◌then◌else◌}
+use Rattle.std.specs.Prelude.{ℕ, zero, suc, Bool, List, length, take, Option, Some, None, slice_index, ◌&&◌, ◌==◌, if◌then◌else◌}
 use Rattle.java_lexer.specs.declared.kind.Kind.{Kind}
 use Rattle.java_lexer.specs.declared.kind.Kind.TheVariants as kind
 use Rattle.java_lexer.specs.Grammar.{kind_by, grammar, comment}

@@ -3,7 +3,7 @@ ghost use Rattle.std.specs.Prelude.{◌≡◌, ◌<◌, ◌+◌, ◌^◌, ◌++�
 ghost use Rattle.java_lexer.specs.Lexing.{lexed};
 ghost use Rattle.java_lexer.specs.declared.fault.LexErr.{LexErr};
 ghost use Rattle.java_lexer.specs.declared.standing.Standing.TheVariants as standing;
-ghost use Rattle.java_lexer.specs.Feeding.{IfFault, IsHopeless, fed_more, finished};
+ghost use Rattle.java_lexer.specs.Feeding.{IfFault, IsHopeless, fed_more, finished, refused};
 
 use crate::cut::{Cut, cut_pieces};
 use crate::fault::{LexErr, LexFault, LexKind};
@@ -46,7 +46,7 @@ impl Lexer {
         ensures ok { self.old.standing ≡ standing.Open → IfOk result (λ tokens. self.new ≡ fed_more self.old piece.now tokens.items) }
 
         // A fault comes only where no continuation has tokens.
-        ensures err { self.old.standing ≡ standing.Open → IfErr result (λ e. (self.new.standing ≡ standing.Refused e)
+        ensures err { self.old.standing ≡ standing.Open → IfErr result (λ e. (self.new ≡ refused self.old e)
             × IfFault e (IsHopeless (self.old.fed ++ piece.now))) }
         ensures refused { (e : LexErr) → self.old.standing ≡ standing.Refused e → (result ≡ Err e) × (self.new ≡ self.old) }
         ensures finished { self.old.standing ≡ standing.Finished → IsOkAnd result (λ tokens. tokens.items ≡ []) × (self.new ≡ self.old) }
@@ -73,7 +73,7 @@ impl Lexer {
             × (self.new ≡ finished self.old tokens.items)) }
 
         // A fault comes exactly where they have no tokens, and says why.
-        ensures err { self.old.standing ≡ standing.Open → IfErr result (λ e. (self.new.standing ≡ standing.Refused e)
+        ensures err { self.old.standing ≡ standing.Open → IfErr result (λ e. (self.new ≡ refused self.old e)
             × IfFault e (λ f. lexed self.old.fed ≡ Err f)) }
         ensures refused { (e : LexErr) → self.old.standing ≡ standing.Refused e → (result ≡ Err e) × (self.new ≡ self.old) }
         ensures finished { self.old.standing ≡ standing.Finished → IsOkAnd result (λ tokens. tokens.items ≡ []) × (self.new ≡ self.old) }

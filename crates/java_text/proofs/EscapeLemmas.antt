@@ -1,5 +1,5 @@
 -- One step of the translation of Unicode escapes: `out` is what has been translated, `more` what it becomes.
-use Rattle.std.proofs.Common.{◌≡◌, ℕ, zero, suc, ◌+◌, ◌-◌, ◌<◌, Bool, true, false, ◌&&◌, not, ◌==◌, List, [], ◌∷◌, ◌++◌, Option, None, Some, length, drop, get_or, refl, sym, ◌∙◌, ap, append_assoc, append-nil, drop-cons, add-one, arith, ◌≤◌}
+use Rattle.std.proofs.Common.{◌≡◌, ℕ, zero, suc, ◌+◌, ◌-◌, ◌<◌, Bool, true, false, ◌&&◌, not, ◌==◌, List, [], ◌∷◌, ◌++◌, None, Some, length, drop, get_or, refl, sym, ◌∙◌, ap, append_assoc, append-nil, drop-cons, add-one, arith, ◌≤◌}
 use Rattle.std.proofs.lemmas.List.{drop_all}
 use Rattle.java_text.specs.Source.{translated_from, escape_value, escape_length}
 

@@ -1,5 +1,5 @@
 -- A text has no more units than its source has bytes.
-use Rattle.std.proofs.Common.{◌≡◌, ℕ, zero, suc, ◌+◌, ◌-◌, ◌<◌, ◌≤◌, Bool, true, false, ◌&&◌, ◌==◌, not, nat_lt, List, [], ◌∷◌, ◌++◌, Option, Some, None, length, take, refl, sym, ◌∙◌, ap, subst, arith, length-append, if◌then◌else◌, cond, inl, inr, slice_index, min}
+use Rattle.std.proofs.Common.{◌≡◌, ℕ, zero, suc, ◌+◌, ◌-◌, ◌≤◌, Bool, true, false, ◌&&◌, ◌==◌, not, nat_lt, List, [], ◌∷◌, Option, Some, None, length, take, refl, ◌∙◌, ap, arith, length-append, if◌then◌else◌, inl, inr, slice_index}
 use Rattle.std.specs.List.{flat_map}
 use Rattle.std.specs.Str.{chars, IsUtf8, encode_utf8_all}
 use Rattle.std.specs.Char.Escape.{encode_utf16}
@@ -29,19 +29,20 @@ length-translated (suc n) odd [] = omega arith
 length-translated (suc n) odd (c ∷ units) = let h = length-translated n odd units in omega (arith, h)
 length-translated zero odd (c ∷ units) = chosen_length (c == 92 && not odd) _ _ (suc (length units))
     (escaped_length (escape_value units) (λ value. value ∷ translated_from (escape_length units) false units) (92 ∷ translated_from 0 true units) (suc (length units))
-      (λ v. more v (translated_from (escape_length units) false units) (length units) (length-translated (escape_length units) false units))
-      (more 92 (translated_from 0 true units) (length units) (length-translated 0 true units)))
+    (λ v. more v (translated_from (escape_length units) false units) (length units) (length-translated (escape_length units) false units))
+    (more 92 (translated_from 0 true units) (length units) (length-translated 0 true units)))
     (more c (translated_from 0 false units) (length units) (length-translated 0 false units))
 
 one_character : (c : ℕ) → length (encode_utf16 c) ≤ length (encode_utf8 c)
 one_character c = elim (cases_lt c 65536) [
-    inl h ↦ (let e : length (encode_utf16 c) ≡ 1 = rw (lt-ltb c 65536 h) refl in omega (arith, e, (len_utf8_bounds c).0, length-encode c))
+  | inl h ↦ (let e : length (encode_utf16 c) ≡ 1 = rw (lt-ltb c 65536 h) refl in omega (arith, e, (len_utf8_bounds c).0, length-encode c))
   | inr h ↦ (
       let e : length (encode_utf16 c) ≡ 2 = rw (le-ltb c 65536 h) refl in
       let two : 2048 ≤ c = omega arith in
       let one : 128 ≤ c = omega arith in
       let f : len_utf8 c ≡ 4 = rw (le-ltb c 128 one, le-ltb c 2048 two, le-ltb c 65536 h) refl in
-      omega (arith, e, f, length-encode c)) ]
+      omega (arith, e, f, length-encode c))
+]
 
 pub length-utf16 : (cs : List ℕ) → length (flat_map encode_utf16 cs) ≤ length (encode_utf8_all cs)
 length-utf16 [] = omega arith

@@ -23,8 +23,9 @@ ascii_parts = refl
 pub same_below : {A : Type 0} (f g : ℕ → A) (k c : ℕ) → map f (below k) ≡ map g (below k) → c < k → f c ≡ g c
 same_below f g zero c e h = absurd (omega arith)
 same_below f g (suc k) c e h = elim (cases_lt c k) [
-    inl l ↦ same_below f g k c (cc) l
-  | inr l ↦ (let q : c ≡ k = omega arith in rw q (cc)) ]
+  | inl l ↦ same_below f g k c (cc) l
+  | inr l ↦ (let q : c ≡ k = omega arith in rw q (cc))
+]
 
 pub ascii_start : (c : ℕ) → c < 128 → is_start c ≡ is_ascii_start c
 ascii_start c h = same_below is_start is_ascii_start 128 c ascii_starts h

@@ -6,6 +6,7 @@ use hdr_core::Memory;
 use std::alloc::Global;
 
 const BACKSLASH: u16 = 0x5C;
+
 const LETTER_U: u16 = 0x75;
 
 /// The units with each Unicode escape replaced by what it stands for.
@@ -91,10 +92,7 @@ fn count_marks(units: &[u16]) -> usize
     ensures count { result ≡ marks units.now }
     ensures within { result ≤ length units.now }
 {
-    units
-        .iter()
-        .take_while(|unit| **unit == LETTER_U)
-        .count()
+    units.iter().take_while(|unit| **unit == LETTER_U).count()
 }
 
 fn number(units: &[u16]) -> Option<u16>

@@ -1,4 +1,4 @@
-use Rattle.std.proofs.Common.{◌∙◌, sym}
+use Rattle.std.proofs.Common.{◌∙◌}
 use Rattle.std.proofs.lemmas.List.{take_rest}
 use Rattle.java_lexer.proofs.BlockLemmas.{behind_found, behind_goes_on, behind_ends}
 use Rattle.java_lexer.proofs.EscapeLemmas.{differs}

@@ -1,4 +1,4 @@
-use Rattle.std.proofs.Common.{◌≡◌, ◌∙◌, sym, length, arith}
+use Rattle.std.proofs.Common.{◌≡◌, ◌∙◌, length, arith}
 use Rattle.java_lexer.proofs.BlockLemmas.{length_found, length_goes_on, length_ends}
 use Rattle.java_lexer.proofs.EscapeLemmas.{differs}
 use Rattle.java_lexer.proofs.block.line_length.Goals as goal

@@ -1,4 +1,4 @@
-use Rattle.std.proofs.Common.{◌≡◌, ◌<◌, ◌∙◌, sym, ap, min, length, drop, length-drop, arith}
+use Rattle.std.proofs.Common.{◌≡◌, ◌<◌, ◌∙◌, ap, min, length, drop, length-drop, arith}
 use Rattle.java_lexer.specs.Blocks.{margin, lines, line_length}
 use Rattle.java_lexer.proofs.BlockLemmas.{margin_last, margin_line, further}
 use Rattle.java_lexer.proofs.block.margin.Goals as goal

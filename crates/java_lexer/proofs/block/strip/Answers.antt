@@ -1,4 +1,4 @@
-use Rattle.std.proofs.Common.{◌≡◌, ◌<◌, ◌++◌, ◌∙◌, sym, ap, length, drop, length-drop, arith}
+use Rattle.std.proofs.Common.{◌≡◌, ◌<◌, ◌++◌, ◌∙◌, ap, length, drop, length-drop, arith}
 use Rattle.java_lexer.specs.Blocks.{stripped, lines, line_length}
 use Rattle.java_lexer.proofs.BlockLemmas.{stripped_last, stripped_line, further}
 use Rattle.java_lexer.proofs.block.strip.Goals as goal

@@ -1,4 +1,4 @@
-use Rattle.std.proofs.Common.{◌≡◌, ◌==◌, false, true, refl, ◌∙◌, ap, sym, drop, slice_index, if◌then◌else◌}
+use Rattle.std.proofs.Common.{◌∙◌, ap, sym, drop, slice_index, if◌then◌else◌}
 use Rattle.std.proofs.lemmas.List.{take_rest}
 use Rattle.std.proofs.lemmas.Bool.{eq-eqb}
 use Rattle.java_lexer.specs.Escapes.{escape_value}

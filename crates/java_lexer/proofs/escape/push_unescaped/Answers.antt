@@ -1,8 +1,7 @@
-use Rattle.std.proofs.Common.{◌≡◌, ◌≢◌, ◌==◌, ◌++◌, false, true, refl, arith, ◌∙◌, ap, sym, append-nil, ◌∷◌, []}
+use Rattle.std.proofs.Common.{◌≡◌, ◌==◌, ◌++◌, false, arith, ◌∙◌, ap, sym, append-nil, ◌∷◌, []}
 use Rattle.std.proofs.lemmas.Grind.{common_steps}
 use Rattle.std.proofs.lemmas.Bool.{eq-eqb}
 use Rattle.java_lexer.proofs.EscapeLemmas.{stays, replaced, one_unit, no_unit, differs}
-use Rattle.java_lexer.specs.Escapes.{escape_units}
 use Rattle.java_lexer.proofs.escape.push_unescaped.Goals as goal
 use Rattle.java_lexer.proofs.escape.push_unescaped.Goals.{then-at+in_ok-push-2, else-at}
 

@@ -1,4 +1,4 @@
-use Rattle.std.proofs.Common.{◌≡◌, ◌∙◌, ap, sym, ◌+◌, ◌*◌, arith}
+use Rattle.std.proofs.Common.{◌∙◌, ap, sym, ◌+◌, ◌*◌}
 use Rattle.java_lexer.specs.Numbers.{small}
 use Rattle.java_lexer.proofs.NumberLemmas.{digit_read, other_read, all_read, too_large, small_is}
 use Rattle.java_lexer.proofs.integer.number.Goals as goal

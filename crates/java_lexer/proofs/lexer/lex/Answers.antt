@@ -1,4 +1,4 @@
-use Rattle.std.proofs.Common.{◌≡◌, ◌<◌, ◌≤◌, ◌∙◌, sym, length, arith}
+use Rattle.std.proofs.Common.{◌<◌, ◌≤◌, ◌∙◌, length, arith}
 use Rattle.java_lexer.proofs.LexLemmas.{no_token, no_utf8, all_tokens}
 use Rattle.java_lexer.proofs.lexer.lex.Goals as goal
 

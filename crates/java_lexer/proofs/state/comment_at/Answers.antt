@@ -1,4 +1,4 @@
-use Rattle.std.proofs.Common.{◌≡◌, ℕ, ◌+◌, ◌∙◌, sym, ap, Some, arith}
+use Rattle.std.proofs.Common.{◌≡◌, ℕ, ◌+◌, ◌∙◌, ap, Some, arith}
 use Rattle.std.proofs.lemmas.List.{take_rest}
 use Rattle.java_lexer.proofs.Longest.{moved, comment_scanned}
 use Rattle.java_lexer.proofs.state.comment_at.Goals as goal

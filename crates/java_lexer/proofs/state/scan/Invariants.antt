@@ -1,4 +1,4 @@
-use Rattle.std.proofs.Common.{◌≡◌, ◌≤◌, IfSome, drop, None, length}
+use Rattle.std.proofs.Common.{◌≡◌, ◌≤◌, IfSome, drop, None}
 use Rattle.java_lexer.specs.Machine.{scan}
 use Rattle.java_lexer.proofs.state.scan.Given as goal
 

@@ -1,4 +1,4 @@
-use Rattle.std.proofs.Common.{◌≡◌, ◌==◌, ◌&&◌, not, false, refl}
+use Rattle.std.proofs.Common.{◌≡◌, ◌==◌, ◌&&◌, not, false}
 use Rattle.std.proofs.lemmas.Grind.{common_steps}
 use Rattle.std.proofs.Common.{arith}
 use Rattle.java_text.proofs.EscapeLemmas.{stays, stays_alone, replaced}
@@ -8,8 +8,9 @@ use Rattle.java_text.proofs.escape.push_translated.Goals.{then-unit-ne-BACKSLASH
 pub returns-then-unit-ne-BACKSLASH : goal.returns-then-unit-ne-BACKSLASH
 returns-then-unit-ne-BACKSLASH c =
     let test : (c.args.unit == 92 && not c.args.odd) ≡ false = elim c.then-unit-ne-BACKSLASH.branch [
-        then-unit-ne-BACKSLASH-via-then-unit-ne-BACKSLASH w ↦ grind (arith, common_steps)
-      | then-unit-ne-BACKSLASH-via-else-unit-ne-BACKSLASH+then-odd w ↦ grind (arith, common_steps) ] in
+      | then-unit-ne-BACKSLASH-via-then-unit-ne-BACKSLASH w ↦ grind (arith, common_steps)
+      | then-unit-ne-BACKSLASH-via-else-unit-ne-BACKSLASH+then-odd w ↦ grind (arith, common_steps)
+    ] in
     stays c.args.odd c.args.unit _ _ _ c.in_ok-push.ensures.items test
 
 pub returns-in_ok-push-in-Some : goal.returns-in_ok-push-in-Some

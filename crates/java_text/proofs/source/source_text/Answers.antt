@@ -1,7 +1,6 @@
-use Rattle.std.proofs.Common.{◌∙◌, refl, sym, ap, subst, length, nat_eq, arith, min, ◌≡◌}
+use Rattle.std.proofs.Common.{◌∙◌, refl, ap, subst}
 use Rattle.std.proofs.lemmas.List.{length-take-le}
 use Rattle.std.proofs.lemmas.Str.{utf8_valid_len_le}
-use Rattle.std.specs.Str.Lossy.{utf8_valid_len}
 use Rattle.java_text.specs.Source.{text_of, translated, without_last_substitute}
 use Rattle.std.specs.Str.{IsUtf8}
 use Rattle.java_text.proofs.LengthLemmas.{text_length}

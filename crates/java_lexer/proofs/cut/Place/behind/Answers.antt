@@ -1,4 +1,4 @@
-use Rattle.std.proofs.Common.{◌∙◌, sym, ap, arith, ◌+◌}
+use Rattle.std.proofs.Common.{◌∙◌, sym, arith}
 use Rattle.java_lexer.proofs.CutLemmas.{ends_moved, return_moved, ends_none, return_none}
 use Rattle.java_lexer.proofs.cut.Place.behind.Goals as goal
 
