@@ -1,0 +1,9 @@
+pub mod Derive
+pub mod FormLemmas
+pub mod States
+pub mod Longest
+pub mod NumberLemmas
+pub mod EscapeLemmas
+pub mod CutLemmas
+pub mod BlockLemmas
+pub mod LexLemmas

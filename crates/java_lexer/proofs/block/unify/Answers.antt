@@ -1,0 +1,12 @@
+use Rattle.std.proofs.Common.{◌∙◌, sym, ap, ◌++◌}
+use Rattle.java_lexer.specs.Blocks.{unified_from}
+use Rattle.java_lexer.proofs.BlockLemmas.{opened, unified_ends}
+use Rattle.java_lexer.proofs.block.unify.Goals as goal
+
+pub loop-unit-preserved : goal.loop-unit-preserved
+loop-unit-preserved c = c.in_ok-after_return.ensures _
+    ∙ ap (λ t. c.loop-unit.unified.items ++ unified_from c.loop-unit.after_return t) (sym (opened _ c.args.units.now c.loop-unit-test.true))
+    ∙ c.loop-unit.invariant
+
+pub returns : goal.returns
+returns c = unified_ends _ _ c.args.units.now _ c.loop-unit-test.false c.loop-unit.invariant

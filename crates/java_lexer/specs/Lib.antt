@@ -1,0 +1,12 @@
+pub mod Grammar
+pub mod Words
+pub mod Pieces
+pub mod Machine
+pub mod Keywords
+pub mod Escapes
+pub mod Numbers
+pub mod Blocks
+pub mod Tokens
+pub mod Lexing
+pub mod Cutting
+pub mod Feeding

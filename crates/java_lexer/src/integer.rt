@@ -1,0 +1,126 @@
+//! What numbers stand for.
+ghost use Rattle.std.specs.Prelude.{◌≡◌, ◌≤◌, ◌<◌, ◌-◌, length, slice_index, true, ◌+◌, ◌*◌, ◌^◌};
+ghost use Rattle.std.specs.Option.{SomeIff};
+ghost use Rattle.java_text.specs.Source.{hex_value, is_hex_digit};
+ghost use Rattle.java_lexer.specs.Numbers as spec;
+
+use java_token::LexLit;
+
+/// The integer literal of these units (JLS 3.10.1).
+pub fn integer(units: &[u16]) -> LexLit
+    ensures { result ≡ spec.integer_of units.now }
+{
+    let radix = radix(units);
+    LexLit::Int {
+        value: number(radix, digit_part(units, radix)),
+        decimal: radix == 10,
+        long: is_long(units),
+    }
+}
+
+/// The floating-point literal of these units (JLS 3.10.2).
+pub fn real(units: &[u16]) -> LexLit
+    ensures { result ≡ spec.real_of units.now }
+{
+    let last = last(units);
+    LexLit::Real {
+        double: !(last == b'F' as u16 || last == b'f' as u16),
+    }
+}
+
+fn is_long(units: &[u16]) -> bool
+    ensures { result ≡ spec.is_long units.now }
+{
+    let last = last(units);
+    last == b'L' as u16 || last == b'l' as u16
+}
+
+/// The last unit, or 0 where there is none.
+fn last(units: &[u16]) -> u16
+    ensures { result ≡ spec.last units.now }
+{
+    at(units, units.len().saturating_sub(1))
+}
+
+/// The unit at a place, or 0 where there is none.
+fn at(units: &[u16], index: usize) -> u16
+    ensures { result ≡ slice_index units.now index }
+{
+    if index < units.len() { units[index] } else { 0 }
+}
+
+fn radix(units: &[u16]) -> u64
+    ensures value { result ≡ spec.radix units.now }
+    ensures bound { result ≤ 16 }
+{
+    if at(units, 0) != b'0' as u16 {
+        return 10;
+    }
+    let second = at(units, 1);
+    if second == b'x' as u16 || second == b'X' as u16 {
+        16
+    } else if second == b'b' as u16 || second == b'B' as u16 {
+        2
+    } else if (second >= b'0' as u16 && second <= b'9' as u16) || second == b'_' as u16 {
+        8
+    } else {
+        10
+    }
+}
+
+fn digit_part(units: &[u16], radix: u64) -> &[u16]
+    requires { radix ≡ spec.radix units.now }
+    ensures { result.now ≡ spec.digit_part units.now }
+{
+    if (radix == 16 || radix == 2) && units.len() >= 2 {
+        &units[2..]
+    } else {
+        units
+    }
+}
+
+/// The number that the digits among the units spell, if 64 bits hold it.
+fn number(radix: u64, units: &[u16]) -> Option<u64>
+    requires { 0 < radix }
+    ensures { result ≡ spec.small (spec.number_behind radix 0 units.now) }
+{
+    let mut number: u64 = 0;
+    for unit in units {
+        if is_hex(*unit) {
+            match with_digit(number, radix, digit(*unit)) {
+                Some(longer) => number = longer,
+                None => return None,
+            }
+        }
+    }
+    Some(number)
+}
+
+/// The number with one more digit, if 64 bits hold it.
+fn with_digit(number: u64, radix: u64, digit: u16) -> Option<u64>
+    ensures { SomeIff result (number * radix + digit < 2 ^ 64) (number * radix + digit) }
+{
+    match number.checked_mul(radix) {
+        Some(product) => product.checked_add(digit as u64),
+        None => None,
+    }
+}
+
+fn is_hex(unit: u16) -> bool
+    ensures { result ≡ is_hex_digit unit }
+{
+    matches!(unit, 48..=57 | 97..=102 | 65..=70)
+}
+
+fn digit(unit: u16) -> u16
+    requires { is_hex_digit unit ≡ true }
+    ensures { result ≡ hex_value unit }
+{
+    if unit <= 57 {
+        unit - 48
+    } else if unit <= 70 {
+        unit - 55
+    } else {
+        unit - 87
+    }
+}

@@ -1,0 +1,25 @@
+//! The tokens of a Java source (JLS chapter 3).
+#![tactic(auto)]
+
+mod block;
+mod cut;
+mod escape;
+mod fault;
+mod form;
+mod integer;
+mod keyword;
+mod kind;
+mod lexer;
+mod number;
+mod quoted;
+#[cfg(test)]
+mod rows;
+mod standing;
+mod state;
+#[cfg(test)]
+mod tests;
+mod token;
+
+pub use fault::{LexErr, LexFault, LexKind};
+pub use java_token::{Kw, LexLit, OpTok, Token, TokenKind};
+pub use lexer::Lexer;

@@ -1,0 +1,34 @@
+//! Modified UTF-8.
+ghost use Rattle.std.specs.Prelude.{◌≡◌, ◌++◌, IfOk, OnOk};
+ghost use Rattle.java_text.specs.Modified as spec;
+
+use hdr_core::{Memory, Text};
+use std::alloc::Global;
+
+/// The text of these units, each of which stands for itself, paired or not (JVMS 4.4.7).
+pub fn modified_utf8(alloc: Global, units: &[u16]) -> Result<Text, Memory>
+    ensures { IfOk result (λ text. text ≡ spec.modified_utf8 units.now) }
+{
+    let mut bytes = Vec::new(alloc);
+    for unit in units {
+        push_unit(&mut bytes, *unit)?;
+    }
+    Ok(Text::from(bytes))
+}
+
+#[inline]
+fn push_unit(bytes: &mut Vec<u8>, unit: u16) -> Result<(), Memory>
+    ensures { OnOk result (bytes.new.items ≡ bytes.old.items ++ spec.unit_bytes unit) }
+{
+    if 0 < unit && unit < 0x80 {
+        bytes.push(unit as u8)?;
+    } else if unit < 0x800 {
+        bytes.push((0xC0 + unit / 64) as u8)?;
+        bytes.push((0x80 + unit % 64) as u8)?;
+    } else {
+        bytes.push((0xE0 + unit / 4096) as u8)?;
+        bytes.push((0x80 + unit / 64 % 64) as u8)?;
+        bytes.push((0x80 + unit % 64) as u8)?;
+    }
+    Ok(())
+}
