@@ -13,23 +13,42 @@ mod tell;
 mod tests;
 
 use hdr_core::{DirFiles, DirOuts, NoGate, StdSink};
+use status::Status;
+use std::io::ErrorKind;
 use std::process::ExitCode;
 use std::{env, io};
 use stream::StandardStream;
 
-/// The words behind the program's name. Words that aren't UTF-8 are no job, so none are handed on.
+/// The words behind the program's name. Words that aren't UTF-8 are no job, so none are handed on then.
 fn words(rt: &HostRuntime) -> io::Result<Vec<String>> {
     let mut words = Vec::new(rt.alloc());
-    for word in env::args(rt)?.skip(1) {
+    let given = match env::args(rt) {
+        Ok(given) => given,
+        Err(error) if error.kind() == ErrorKind::InvalidData => return Ok(words),
+        Err(error) => return Err(error),
+    };
+    for word in given.skip(1) {
         words.push(word)?;
     }
     Ok(words)
 }
 
-fn main(rt: HostRuntime) -> io::Result<ExitCode> {
-    let words = words(&rt).unwrap_or(Vec::new(rt.alloc()));
-    let mut files = DirFiles::of(rt.clone()?);
-    let mut outs = DirOuts::of(rt.clone()?);
+/// The words, and the files of the system.
+type Start = (Vec<String>, DirFiles<HostRuntime>, DirOuts<HostRuntime>);
+
+/// An error is want of memory.
+fn start(rt: &HostRuntime) -> io::Result<Start> {
+    Ok((
+        words(rt)?,
+        DirFiles::of(rt.clone()?),
+        DirOuts::of(rt.clone()?),
+    ))
+}
+
+fn main(rt: HostRuntime) -> ExitCode {
+    let Ok((words, mut files, mut outs)) = start(&rt) else {
+        return ExitCode::from(Status::Memory.number());
+    };
     let mut out = StdSink::of(StandardStream::Output(rt.stdout()));
     let mut err = StdSink::of(StandardStream::Error(rt.stderr()));
     let status = run::run(
@@ -42,5 +61,5 @@ fn main(rt: HostRuntime) -> io::Result<ExitCode> {
         &mut err,
         &NoGate,
     );
-    Ok(ExitCode::from(status.number()))
+    ExitCode::from(status.number())
 }
