@@ -33,22 +33,20 @@ fn words(rt: &HostRuntime) -> io::Result<Vec<String>> {
     Ok(words)
 }
 
-/// The words, and the files of the system.
-type Start = (Vec<String>, DirFiles<HostRuntime>, DirOuts<HostRuntime>);
+/// The words, and two handles of the system.
+type Start = (Vec<String>, HostRuntime, HostRuntime);
 
 /// An error is want of memory.
 fn start(rt: &HostRuntime) -> io::Result<Start> {
-    Ok((
-        words(rt)?,
-        DirFiles::of(rt.clone()?),
-        DirOuts::of(rt.clone()?),
-    ))
+    Ok((words(rt)?, rt.clone()?, rt.clone()?))
 }
 
 fn main(rt: HostRuntime) -> ExitCode {
-    let Ok((words, mut files, mut outs)) = start(&rt) else {
+    let Ok((words, reading, writing)) = start(&rt) else {
         return ExitCode::from(Status::Memory.number());
     };
+    let mut files = DirFiles::of(reading);
+    let mut outs = DirOuts::of(writing);
     let mut out = StdSink::of(StandardStream::Output(rt.stdout()));
     let mut err = StdSink::of(StandardStream::Error(rt.stderr()));
     let status = run::run(
