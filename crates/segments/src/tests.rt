@@ -147,8 +147,9 @@ const CUTS: [(&str, &str); 51] = [
 ];
 
 /// Each list whose brackets don't pair, and the line that is named.
-const WRONGS: [(&str, u32); 9] = [
+const WRONGS: [(&str, u32); 10] = [
     ("( ]", 1),
+    ("class A {", 1),
     ("/ class A {", 2),
     ("a / ( b / ) )", 3),
     ("( / [ / { / } / ]", 1),
@@ -312,7 +313,7 @@ fn refusals(rt: HostRuntime) -> Result<(), Fail> {
         );
     }
     assert!(rt; segments(alloc, &nested(alloc, 64)?).is_ok());
-    let deep = segments(alloc, &nested(alloc, 66)?);
+    let deep = segments(alloc, &nested(alloc, 65)?);
     assert!(rt; deep.is_err_and(|error| error == SegErr::TooDeep { line: 65 }));
     Ok(())
 }
