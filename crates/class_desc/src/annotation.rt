@@ -110,3 +110,9 @@ impl TryCopy for AnnDesc {
         self.copy(alloc)
     }
 }
+
+impl TryCopy for ElemValue {
+    fn try_copy(&self, alloc: Global) -> Result<ElemValue, Memory> {
+        self.copy(alloc)
+    }
+}

@@ -5,12 +5,17 @@
 
 mod annotation;
 mod attribute;
+mod bound_annotations;
 mod class;
 #[cfg(test)]
 mod tests;
+mod threads;
+mod types;
 mod value;
 
 pub use annotation::{AnnDesc, ElemPair, ElemValue};
 pub use attribute::{Attr, ComponentDesc, InnerEntry, ParamEntry};
+pub use bound_annotations::{Ann, ClassAnns, Deprecations};
 pub use class::{ClassDesc, FieldDesc, MethodDesc};
+pub use types::{JArg, JParam, JPart, JSig, JType};
 pub use value::Value;

@@ -1,0 +1,190 @@
+ghost use Rattle.std.specs.Prelude.{◌≡◌, IfOk};
+
+use hdr_core::{List, Memory, Text, TryCopy};
+use sqlite_items::Boxed;
+use std::alloc::Global;
+
+/// A type as descriptors and signatures write it (JVMS 4.3, 4.7.9.1), or `void`.
+#[cycle(java_type)]
+#[derive(Debug, Drop)]
+pub enum JType {
+    Void,
+    /// The letter of a primitive type in descriptors.
+    Prim(u8),
+    /// A class, with the classes around it that have type arguments.
+    Named(List<JPart>),
+    /// A type variable.
+    Var(Text),
+    Array {
+        /// No array.
+        element: Boxed<JType>,
+        /// At least 1.
+        dims: u32,
+    },
+}
+
+/// A class with its type arguments: the first part of a type has the binary name of its class, each later one a simple name.
+#[cycle(java_type)]
+#[derive(Debug, Drop)]
+pub struct JPart {
+    pub name: Text,
+    pub args: List<JArg>,
+}
+
+/// A type argument.
+#[cycle(java_type)]
+#[derive(Debug, Drop)]
+pub enum JArg {
+    Exact(JType),
+    /// `? extends` a type.
+    Extends(JType),
+    /// `? super` a type.
+    Super(JType),
+    /// `?`
+    Any,
+}
+
+/// A type parameter (JVMS 4.7.9.1).
+#[derive(Debug, Drop)]
+pub struct JParam {
+    pub name: Text,
+    pub class_bound: Option<JType>,
+    pub interface_bounds: List<JType>,
+}
+
+/// What a descriptor or a signature says (JVMS 4.3, 4.7.9.1).
+#[derive(Debug, Drop)]
+pub enum JSig {
+    OfClass {
+        params: List<JParam>,
+        super_type: JType,
+        interfaces: List<JType>,
+    },
+    OfMethod {
+        params: List<JParam>,
+        formals: List<JType>,
+        ret: JType,
+        throws: List<JType>,
+    },
+    OfField(JType),
+}
+
+impl JType {
+    #[cycle(copy_type)]
+    pub fn copy(&self, alloc: Global) -> Result<JType, Memory>
+        ensures { IfOk result (λ copy. copy ≡ self.now) }
+    {
+        match self {
+            JType::Void => Ok(JType::Void),
+            JType::Prim(letter) => Ok(JType::Prim(*letter)),
+            JType::Named(parts) => Ok(JType::Named(copy_parts(alloc, parts.items())?)),
+            JType::Var(name) => Ok(JType::Var(name.copy(alloc)?)),
+            JType::Array { element, dims } => Ok(JType::Array {
+                element: Boxed::new(alloc, element.get().copy(alloc)?)?,
+                dims: *dims,
+            }),
+        }
+    }
+}
+
+impl JPart {
+    #[cycle(copy_type)]
+    pub fn copy(&self, alloc: Global) -> Result<JPart, Memory>
+        ensures { IfOk result (λ copy. copy ≡ self.now) }
+    {
+        Ok(JPart {
+            name: self.name.copy(alloc)?,
+            args: copy_args(alloc, self.args.items())?,
+        })
+    }
+}
+
+impl JArg {
+    #[cycle(copy_type)]
+    pub fn copy(&self, alloc: Global) -> Result<JArg, Memory>
+        ensures { IfOk result (λ copy. copy ≡ self.now) }
+    {
+        match self {
+            JArg::Exact(ty) => Ok(JArg::Exact(ty.copy(alloc)?)),
+            JArg::Extends(ty) => Ok(JArg::Extends(ty.copy(alloc)?)),
+            JArg::Super(ty) => Ok(JArg::Super(ty.copy(alloc)?)),
+            JArg::Any => Ok(JArg::Any),
+        }
+    }
+}
+
+#[cycle(copy_type)]
+fn copy_parts(alloc: Global, parts: &[JPart]) -> Result<List<JPart>, Memory>
+    ensures { IfOk result (λ copy. copy ≡ parts.now) }
+{
+    let mut copy = Vec::new(alloc);
+    for part in parts {
+        copy.push(part.copy(alloc)?)?;
+    }
+    Ok(List::of(copy))
+}
+
+#[cycle(copy_type)]
+fn copy_args(alloc: Global, args: &[JArg]) -> Result<List<JArg>, Memory>
+    ensures { IfOk result (λ copy. copy ≡ args.now) }
+{
+    let mut copy = Vec::new(alloc);
+    for arg in args {
+        copy.push(arg.copy(alloc)?)?;
+    }
+    Ok(List::of(copy))
+}
+
+impl TryCopy for JType {
+    fn try_copy(&self, alloc: Global) -> Result<JType, Memory> {
+        self.copy(alloc)
+    }
+}
+
+impl JParam {
+    pub fn copy(&self, alloc: Global) -> Result<JParam, Memory>
+        ensures { IfOk result (λ copy. copy ≡ self.now) }
+    {
+        Ok(JParam {
+            name: self.name.copy(alloc)?,
+            class_bound: self.class_bound.try_copy(alloc)?,
+            interface_bounds: self.interface_bounds.copy(alloc)?,
+        })
+    }
+}
+
+impl TryCopy for JParam {
+    fn try_copy(&self, alloc: Global) -> Result<JParam, Memory> {
+        self.copy(alloc)
+    }
+}
+
+impl JSig {
+    pub fn copy(&self, alloc: Global) -> Result<JSig, Memory>
+        ensures { IfOk result (λ copy. copy ≡ self.now) }
+    {
+        match self {
+            JSig::OfClass {
+                params,
+                super_type,
+                interfaces,
+            } => Ok(JSig::OfClass {
+                params: params.copy(alloc)?,
+                super_type: super_type.copy(alloc)?,
+                interfaces: interfaces.copy(alloc)?,
+            }),
+            JSig::OfMethod {
+                params,
+                formals,
+                ret,
+                throws,
+            } => Ok(JSig::OfMethod {
+                params: params.copy(alloc)?,
+                formals: formals.copy(alloc)?,
+                ret: ret.copy(alloc)?,
+                throws: throws.copy(alloc)?,
+            }),
+            JSig::OfField(ty) => Ok(JSig::OfField(ty.copy(alloc)?)),
+        }
+    }
+}
