@@ -1,0 +1,8 @@
+//! Whether a text is a signature (JVMS 4.7.9.1), found in one pass that builds no tree and takes no memory.
+#![tactic(auto)]
+
+mod place;
+mod scan;
+
+pub use place::SigPlace;
+pub use scan::{Verdict, scan};
