@@ -3,6 +3,8 @@
 use Rattle.std.specs.Prelude.{ℕ, ◌+◌, max, nat_lt, List, [], ◌∷◌, ◌++◌, map, replicate, Option, Some, None}
 use Rattle.std.specs.List.{flat_map, position_or_len}
 use Rattle.class_desc.specs.declared.types.JType.{JType, fold-JType}
+use Rattle.class_desc.specs.declared.types.JPart.{JPart, fold-JPart}
+use Rattle.class_desc.specs.declared.types.JArg.{JArg, fold-JArg}
 use Rattle.class_desc.specs.declared.types.JArg.TheOpen.{JType-F, JPart-F, JArg-F}
 use Rattle.class_desc.specs.declared.types.JParam.{JParam}
 use Rattle.class_desc.specs.declared.types.JSig.{JSig}
@@ -42,6 +44,12 @@ arg_layer_levels JArg-F.Any depth = 0 ∷ []
 
 abbrev pub type_levels : JType → Levels
 type_levels type = fold-JType Levels Levels Levels arg_layer_levels type_layer_levels part_layer_levels type
+
+abbrev pub part_levels : JPart → Levels
+part_levels part = fold-JPart Levels Levels Levels arg_layer_levels type_layer_levels part_layer_levels part
+
+abbrev pub arg_levels : JArg → Levels
+arg_levels arg = fold-JArg Levels Levels Levels arg_layer_levels type_layer_levels part_layer_levels arg
 
 -- the levels of a type that stands in no type arguments
 abbrev pub top_levels : JType → List ℕ

@@ -3,6 +3,8 @@
 use Rattle.std.specs.Prelude.{◌≡◌, ◌&&◌, ◌^◌, not, Bool, true, false, ℕ, ◌==◌, nat_le, nat_lt, List, [], ◌∷◌, length, codes, Option, Some, None}
 use Rattle.std.specs.List.{list_all, slice_split}
 use Rattle.class_desc.specs.declared.types.JType.{JType, fold-JType}
+use Rattle.class_desc.specs.declared.types.JPart.{JPart, fold-JPart}
+use Rattle.class_desc.specs.declared.types.JArg.{JArg, fold-JArg}
 use Rattle.class_desc.specs.declared.types.JArg.TheOpen.{JType-F, JPart-F, JArg-F}
 use Rattle.class_desc.specs.declared.types.JParam.{JParam}
 use Rattle.class_desc.specs.declared.types.JSig.{JSig}
@@ -19,7 +21,7 @@ is_identifier name = not (length name == 0) && list_all (λ b. not (is_among (co
 abbrev pub is_binary_name : List ℕ → Bool
 is_binary_name name = list_all is_identifier (slice_split (λ b. b == 47) name)
 
--- what the grammar asks of a type at its place
+-- the productions of JVMS 4.7.9.1 that a type may have to follow
 pub data Production : Type 0 where
   -- Result: any type, or void
   AnyResult : Production
@@ -95,6 +97,13 @@ arg_layer_is JArg-F.Any = true
 -- whether the type is one that the production allows
 abbrev pub is_type : JType → Production → Bool
 is_type type = fold-JType Bool (Production → Bool) PartForm arg_layer_is type_layer_is part_layer_is type
+
+-- whether the part is a class with right type arguments, its name of this form
+abbrev pub is_part : JPart → PartForm
+is_part part = fold-JPart Bool (Production → Bool) PartForm arg_layer_is type_layer_is part_layer_is part
+
+abbrev pub is_arg : JArg → Bool
+is_arg arg = fold-JArg Bool (Production → Bool) PartForm arg_layer_is type_layer_is part_layer_is arg
 
 abbrev pub are_types : Production → List JType → Bool
 are_types at types = list_all (λ type. is_type type at) types

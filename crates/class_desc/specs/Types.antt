@@ -3,6 +3,8 @@
 use Rattle.std.specs.Prelude.{ℕ, List, [], ◌∷◌, ◌++◌, replicate, codes, Option, Some, None}
 use Rattle.std.specs.List.{flat_map, concat}
 use Rattle.class_desc.specs.declared.types.JType.{JType, fold-JType}
+use Rattle.class_desc.specs.declared.types.JPart.{JPart, fold-JPart}
+use Rattle.class_desc.specs.declared.types.JArg.{JArg, fold-JArg}
 use Rattle.class_desc.specs.declared.types.JArg.TheOpen.{JType-F, JPart-F, JArg-F}
 use Rattle.class_desc.specs.declared.types.JParam.{JParam}
 use Rattle.class_desc.specs.declared.types.JSig.{JSig}
@@ -37,6 +39,12 @@ arg_layer_text JArg-F.Any = codes "*"
 
 abbrev pub type_text : JType → List ℕ
 type_text type = fold-JType (List ℕ) (List ℕ) (List ℕ) arg_layer_text type_layer_text part_layer_text type
+
+abbrev pub part_text : JPart → List ℕ
+part_text part = fold-JPart (List ℕ) (List ℕ) (List ℕ) arg_layer_text type_layer_text part_layer_text part
+
+abbrev pub arg_text : JArg → List ℕ
+arg_text arg = fold-JArg (List ℕ) (List ℕ) (List ℕ) arg_layer_text type_layer_text part_layer_text arg
 
 abbrev pub bound_text : Option JType → List ℕ
 bound_text None = []

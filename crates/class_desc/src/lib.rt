@@ -10,6 +10,8 @@ mod class;
 #[cfg(test)]
 mod tests;
 mod threads;
+#[cfg(test)]
+mod type_tests;
 mod types;
 mod value;
 
