@@ -4,4 +4,3 @@
 mod error;
 
 pub use error::SigErr;
-pub use signature_scan::SigPlace;

@@ -6,8 +6,8 @@ use Rattle.class_desc.specs.Spelling.{IsLongestBeginning}
 use Rattle.class_desc.specs.Nesting.{nesting, nesting_limit, opens_at}
 use Rattle.signature_scan.specs.declared.place.SigPlace.{SigPlace}
 use Rattle.signature_scan.specs.declared.place.SigPlace.TheVariants.{ClassPlace, MethodPlace, FieldPlace}
-use Rattle.signature_scan.specs.declared.scan.Verdict.{Verdict}
-use Rattle.signature_scan.specs.declared.scan.Verdict.TheVariants as verdict
+use Rattle.signature_scan.specs.declared.verdict.Verdict.{Verdict}
+use Rattle.signature_scan.specs.declared.verdict.Verdict.TheVariants as verdict
 
 abbrev pub place_of : SigPlace → Place
 place_of ClassPlace = AtClass

@@ -2,7 +2,9 @@
 #![tactic(auto)]
 
 mod place;
-mod scan;
+mod scanner;
+mod verdict;
 
 pub use place::SigPlace;
-pub use scan::{Verdict, scan};
+pub use scanner::scan;
+pub use verdict::Verdict;
