@@ -3,3 +3,4 @@ pub mod Layout
 pub mod Names
 pub mod Pool
 pub mod Strip
+pub mod View

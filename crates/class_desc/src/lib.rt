@@ -6,6 +6,7 @@
 mod annotation;
 mod attribute;
 mod class;
+mod laws;
 #[cfg(test)]
 mod tests;
 mod value;
@@ -13,4 +14,5 @@ mod value;
 pub use annotation::{AnnDesc, ElemPair, ElemValue};
 pub use attribute::{Attr, ComponentDesc, InnerEntry, ParamEntry};
 pub use class::{ClassDesc, FieldDesc, MethodDesc};
+pub use laws::{strip_shows_the_stripped_view, stripped_is_valid};
 pub use value::Value;
