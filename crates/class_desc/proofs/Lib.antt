@@ -1,2 +1,4 @@
+pub mod Filtered
 pub mod Layers
 pub mod Levels
+pub mod Stripped

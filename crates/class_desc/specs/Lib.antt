@@ -9,3 +9,4 @@ pub mod Signature
 pub mod Spelling
 pub mod Strip
 pub mod Types
+pub mod View

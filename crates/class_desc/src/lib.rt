@@ -7,6 +7,7 @@ mod annotation;
 mod attribute;
 mod bound_annotations;
 mod class;
+mod laws;
 #[cfg(test)]
 mod tests;
 mod threads;
@@ -19,5 +20,6 @@ pub use annotation::{AnnDesc, ElemPair, ElemValue};
 pub use attribute::{Attr, ComponentDesc, InnerEntry, ParamEntry};
 pub use bound_annotations::{Ann, ClassAnns, Deprecations};
 pub use class::{ClassDesc, FieldDesc, MethodDesc};
+pub use laws::{strip_shows_the_stripped_view, stripped_is_valid};
 pub use types::{JArg, JParam, JPart, JSig, JType};
 pub use value::Value;

@@ -1,4 +1,4 @@
-use crate::{ReadErr, read_class};
+use crate::{ClassFault, ClassKind, ReadErr, read_class};
 use class_desc::ClassDesc;
 use hdr_core::Text;
 use std::alloc::{AllocError, Global};
@@ -74,5 +74,44 @@ fn reads_classes(rt: HostRuntime) -> Result<(), Fail> {
     }
     let refused = matches!(read_class(alloc, LONGER), Err(ReadErr::Fault(_)));
     assert!(rt; refused);
+    Ok(())
+}
+
+/// A class with as many methods as `count`, whose names are the texts of its pool from first to last, and then again.
+///
+/// No pool has more: one class, which is its own superclass, and the 65,533 texts A, ()V, m00000, m00001 and so on.
+fn class_of_methods(alloc: Global, count: u16) -> Result<Vec<u8>, AllocError> {
+    let front = b"\xca\xfe\xba\xbe\0\0\0\x3d\xff\xff\x07\0\x02\x01\0\x01A\x01\0\x03()V";
+    let mut file = Vec::from_slice(alloc, front)?;
+    for number in 0..65_531u32 {
+        let entry = format!(in alloc; "\x01\0\x06m{number:05}")?;
+        file.extend_from_slice(entry.as_bytes())?;
+    }
+    file.extend_from_slice(b"\0\x21\0\x01\0\x01\0\0\0\0")?;
+    file.extend_from_slice(&count.to_be_bytes())?;
+    for number in 0..count {
+        let name = 2 + number % 65_533;
+        file.extend_from_slice(b"\0\x01")?;
+        file.extend_from_slice(&name.to_be_bytes())?;
+        file.extend_from_slice(b"\0\x03\0\0")?;
+    }
+    file.extend_from_slice(b"\0\0")?;
+    Ok(file)
+}
+
+#[test]
+fn reads_many_methods(rt: HostRuntime) -> Result<(), Fail> {
+    let repeated = ReadErr::Fault(ClassFault {
+        offset: 0,
+        kind: ClassKind::NotYet,
+    });
+    let cases: [(u16, Result<usize, ReadErr>); 2] = [(65_533, Ok(65_533)), (65_535, Err(repeated))];
+    let alloc = rt.alloc();
+    for (count, want) in cases {
+        let file = class_of_methods(alloc, count)?;
+        assert!(rt; file.len() <= 16_777_216);
+        let read = read_class(alloc, &file).map(|class| class.methods.items().len());
+        assert_eq!(rt; read, want);
+    }
     Ok(())
 }

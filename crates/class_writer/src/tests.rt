@@ -2,6 +2,7 @@ ghost use Rattle.std.specs.Prelude.{◌≡◌, [], IfOk};
 ghost use Rattle.std.specs.List.{AllByRecursion};
 ghost use Rattle.class_desc.specs.Layout.{HasNoAttributes};
 
+use crate::error::PoolErr;
 use crate::write::write_class;
 use class_desc::{ClassDesc, FieldDesc, MethodDesc};
 use hdr_core::{List, Memory, Text};
@@ -113,5 +114,52 @@ fn writes_files(rt: HostRuntime) -> Result<(), Fail> {
         let file = write_class(rt.alloc(), &desc)?;
         assert_eq!(rt; file.as_slice(), case.file);
     }
+    Ok(())
+}
+
+/// Methods of the names m0, m1 and so on.
+fn numbered_methods(alloc: Global, count: u32) -> Result<List<MethodDesc>, Memory>
+    ensures { IfOk result (λ methods. AllByRecursion (λ m. m.attrs ≡ []) methods) }
+{
+    let mut methods = Vec::new(alloc);
+    for number in 0..count {
+        let name = format!(in alloc; "m{number}")?;
+        methods.push(MethodDesc {
+            flags: 0x0001,
+            name: Text::of(alloc, name.as_bytes())?,
+            descriptor: Text::of(alloc, b"()V")?,
+            attrs: List::of(Vec::new(alloc)),
+        })?;
+    }
+    Ok(List::of(methods))
+}
+
+/// A class whose pool needs five entries and one for each method.
+fn class_of_methods(alloc: Global, count: u32) -> Result<ClassDesc, Memory>
+    ensures { IfOk result HasNoAttributes }
+{
+    let methods = numbered_methods(alloc, count)?;
+    Ok(ClassDesc {
+        minor: 0,
+        major: 61,
+        flags: 0x0021,
+        name: Text::of(alloc, b"A")?,
+        super_name: Some(Text::of(alloc, b"java/lang/Object")?),
+        interfaces: List::of(Vec::new(alloc)),
+        fields: List::of(Vec::new(alloc)),
+        methods,
+        attrs: List::of(Vec::new(alloc)),
+    })
+}
+
+#[test]
+fn fills_pools(rt: HostRuntime) -> Result<(), Fail> {
+    let alloc = rt.alloc();
+    let most = class_of_methods(alloc, 65_529)?;
+    let file = write_class(alloc, &most)?;
+    assert_eq!(rt; file.get(8..10), Some(b"\xff\xff".as_slice()));
+    let one_more = class_of_methods(alloc, 65_530)?;
+    let refused = write_class(alloc, &one_more).err();
+    assert_eq!(rt; refused, Some(PoolErr::PoolFull { needed: 65_535 }));
     Ok(())
 }

@@ -2,6 +2,7 @@
 #![tactic(auto)]
 
 mod ijar;
+mod laws;
 mod read;
 mod run;
 mod status;
