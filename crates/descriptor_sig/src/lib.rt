@@ -2,5 +2,7 @@
 #![tactic(auto)]
 
 mod error;
+mod write;
 
 pub use error::SigErr;
+pub use write::write_signature;
