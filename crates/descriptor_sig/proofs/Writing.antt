@@ -15,8 +15,8 @@ one_more text i xs x start before after within is so_far now =
     now ∙ ap (λ r. r ++ text x) so_far ∙ append_assoc start (concat (map text (take i xs))) (text x)
     ∙ ap (λ r. start ++ r) (ap (λ y. concat (map text (take i xs)) ++ text y) is ∙ sym next)
   where
-  next : concat (map text (take (i + 1) xs)) ≡ concat (map text (take i xs)) ++ text (get_or xs i x)
-  next = ap concat (map_more text xs i x within) ∙ concat-append (map text (take i xs)) (text (get_or xs i x) ∷ []) ∙ ap (λ r. concat (map text (take i xs)) ++ r) (append-nil (text (get_or xs i x)))
+    next : concat (map text (take (i + 1) xs)) ≡ concat (map text (take i xs)) ++ text (get_or xs i x)
+    next = ap concat (map_more text xs i x within) ∙ concat-append (map text (take i xs)) (text (get_or xs i x) ∷ []) ∙ ap (λ r. concat (map text (take i xs)) ++ r) (append-nil (text (get_or xs i x)))
 
 -- three pieces, one after another
 three_written : (old first second third one two all text : List ℕ) → one ≡ old ++ first → two ≡ one ++ second → all ≡ two ++ third → text ≡ first ++ (second ++ third) → all ≡ old ++ text
@@ -35,5 +35,5 @@ array_written ty element got dims len size old one all is sized at e g f =
     ∙ append_assoc old (replicate dims 91) (type_text got)
     ∙ ap (λ r. old ++ r) (ap (λ t. replicate dims 91 ++ type_text t) g ∙ sym (ap type_text is ∙ text_array element dims))
   where
-  fill : len + dims - size ≡ dims
-  fill = omega arith
+    fill : len + dims - size ≡ dims
+    fill = omega arith

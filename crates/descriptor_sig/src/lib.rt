@@ -3,6 +3,8 @@
 
 mod error;
 mod write;
+#[cfg(test)]
+mod write_tests;
 
 pub use error::SigErr;
 pub use write::write_signature;

@@ -21,5 +21,5 @@ pub write_type-returns-in_ok-resize-in-Array : goal.write_type-returns-in_ok-res
 write_type-returns-in_ok-resize-in-Array t c =
     on_ok_weaker c.write_type.result
     (array_written c.args.ty.now c.in-Array.element c.get.result.now c.in-Array.dims c.len.result c.args.out.now.len c.args.out.now.items c.resize.new.self.items c.write_type.new.out.items
-      c.in-Array.is (omega (arith, c.args.out.now.ok.0)) c.len.ensures c.in_ok-resize-in-Array.ensures.items c.get.ensures)
+    c.in-Array.is (omega (arith, c.args.out.now.ok.0)) c.len.ensures c.in_ok-resize-in-Array.ensures.items c.get.ensures)
     c.write_type.ensures
