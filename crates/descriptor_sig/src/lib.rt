@@ -2,5 +2,9 @@
 #![tactic(auto)]
 
 mod error;
+mod write;
+#[cfg(test)]
+mod write_tests;
 
 pub use error::SigErr;
+pub use write::write_signature;

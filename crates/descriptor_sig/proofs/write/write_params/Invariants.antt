@@ -1,0 +1,7 @@
+use Rattle.std.proofs.Common.{◌≡◌, ◌++◌, take}
+use Rattle.std.specs.List.{flat_map}
+use Rattle.class_desc.specs.Types.{param_text}
+use Rattle.descriptor_sig.proofs.write.write_params.Given as goal
+
+abbrev pub invariant-loop-param : goal.invariant-loop-param
+invariant-loop-param l = l.out.items ≡ l.initial.out.items ++ flat_map param_text (take l.param-index l.params)

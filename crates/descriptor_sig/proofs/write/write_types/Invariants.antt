@@ -1,0 +1,7 @@
+use Rattle.std.proofs.Common.{◌≡◌, ◌++◌, take}
+use Rattle.std.specs.List.{flat_map}
+use Rattle.class_desc.specs.Types.{type_text}
+use Rattle.descriptor_sig.proofs.write.write_types.Given as goal
+
+abbrev pub invariant-loop-ty : goal.invariant-loop-ty
+invariant-loop-ty l = l.out.items ≡ l.initial.out.items ++ flat_map type_text (take l.ty-index l.types)
