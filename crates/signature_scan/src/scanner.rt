@@ -2,14 +2,36 @@ ghost use Rattle.std.specs.Prelude.{◌<◌, ◌^◌, length};
 ghost use Rattle.signature_scan.specs.Scanned.{Scanned, place_of};
 
 use crate::place::SigPlace;
+use crate::state::State;
 use crate::verdict::Verdict;
+
+/// How deep type arguments may be nested.
+const NESTING_LIMIT: u32 = 64;
 
 /// Looks at a whole text.
 pub fn scan(text: &[u8], place: SigPlace) -> Verdict
     requires { length text.now < 2 ^ 32 }
     ensures { Scanned (place_of place) text.now result }
 {
-    let _place = place;
-    let _text = text;
-    Verdict::Fine
+    let mut state = State::start(place);
+    let mut too_deep = None;
+    for (index, byte) in text.iter().enumerate() {
+        let at = index as u32;
+        state = match state.next(*byte) {
+            Some(next) => next,
+            None => return Verdict::BadText { at },
+        };
+        if too_deep.is_none() && state.depth() > NESTING_LIMIT {
+            too_deep = Some(at);
+        }
+    }
+    if !state.is_whole() {
+        return Verdict::BadText {
+            at: text.len() as u32,
+        };
+    }
+    match too_deep {
+        None => Verdict::Fine,
+        Some(at) => Verdict::TooDeep { at },
+    }
 }
