@@ -80,7 +80,7 @@ behind_name a depth b =
 
 -- behind the name of a class
 abbrev pub behind_class_name : Around → ℕ → ℕ → Option State
-behind_class_name a depth b = if b == 60 then Some (state.Within part.Argument a (depth + 1)) else behind_name a depth b
+behind_class_name a depth b = if b == 60 then Some (state.Within part.Argument a (suc depth)) else behind_name a depth b
 
 abbrev pub in_class_name : Bool → Around → ℕ → ℕ → Option State
 in_class_name true a depth b =
