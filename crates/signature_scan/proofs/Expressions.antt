@@ -188,11 +188,11 @@ EndIs e = Words e [] ↔ (can_end e ≡ true)
 abbrev pub AfterIs : Expr → Type 0
 AfterIs e = (b : ℕ) (w : List ℕ) → Words e (b ∷ w) ↔ AnyRow (after e b) w
 
-and_true : (a b : Bool) → ((a ≡ true) × (b ≡ true)) ↔ (a && b ≡ true)
+pub and_true : (a b : Bool) → ((a ≡ true) × (b ≡ true)) ↔ (a && b ≡ true)
 and_true true b = (λ p. p.1, λ e. (refl, e))
 and_true false b = (λ p. absurd (false≢true p.0), λ e. absurd (false≢true e))
 
-or_true : (a b : Bool) → ((a ≡ true) ⊎ (b ≡ true)) ↔ (a || b ≡ true)
+pub or_true : (a b : Bool) → ((a ≡ true) ⊎ (b ≡ true)) ↔ (a || b ≡ true)
 or_true true b = (λ s. refl, λ e. inl refl)
 or_true false b = (λ s. elim s as (λ s. b ≡ true) [ inl x ↦ absurd (false≢true x) | inr y ↦ y ], λ e. inr e)
 

@@ -152,3 +152,35 @@ times_to L M f (suc n) w c = record { front = c.front; rest = c.rest; whole = c.
 
 pub stars : {L M : List ℕ → Type 0} → ((v : List ℕ) → L v ↔ M v) → (w : List ℕ) → Star L w ↔ Star M w
 stars {L} {M} f w = (λ s. (s.0, times_to L M (λ v. (f v).0) s.0 w s.1), λ s. (s.0, times_to M L (λ v. (f v).1) s.0 w s.1))
+
+star_step_to : (L : List ℕ → Type 0) (w : List ℕ) (n : ℕ) → Times L n w → (w ≡ []) ⊎ Cat L (Star L) w
+star_step_to L w zero e = inl e
+star_step_to L w (suc n) c = inr (record { front = c.front; rest = c.rest; whole = c.whole; first = c.first; second = (n, c.second) })
+
+star_step_back : (L : List ℕ → Type 0) (w : List ℕ) → (w ≡ []) ⊎ Cat L (Star L) w → Star L w
+star_step_back L w (inl e) = (zero, e)
+star_step_back L w (inr c) = star_more L w c
+
+-- none, or one and then others
+pub star_step : (L : List ℕ → Type 0) (w : List ℕ) → Star L w ↔ ((w ≡ []) ⊎ Cat L (Star L) w)
+star_step L w = (λ s. star_step_to L w s.0 s.1, star_step_back L w)
+
+-- one of two that can't be
+pub only_right : {A B : Type 0} → (A → ⊥) → (A ⊎ B) ↔ B
+only_right {A} {B} never = (λ s. elim s as (λ s. B) [ inl x ↦ absurd (never x) | inr y ↦ y ], λ y. inr y)
+
+pub only_left : {A B : Type 0} → (B → ⊥) → (A ⊎ B) ↔ A
+only_left {A} {B} never = (λ s. elim s as (λ s. A) [ inl x ↦ x | inr y ↦ absurd (never y) ], λ x. inl x)
+
+-- a fact that is known
+pub known : {A B : Type 0} → A → (A × B) ↔ B
+known x = (λ p. p.1, λ y. (x, y))
+
+pub same_test : (a b : Bool) → a ≡ b → (a ≡ true) ↔ (b ≡ true)
+same_test a b e = (λ x. sym e ∙ x, λ y. e ∙ y)
+
+not_empty : (b : ℕ) (w : List ℕ) → b ∷ w ≡ [] → ⊥
+not_empty b w e = absurd (cc)
+
+pub star_begins : (L : List ℕ → Type 0) (b : ℕ) (w : List ℕ) → Star L (b ∷ w) ↔ Cat L (Star L) (b ∷ w)
+star_begins L b w = and_then (star_step L (b ∷ w)) (only_right (not_empty b w))

@@ -1,3 +1,6 @@
 mod Expressions
+mod Items
 mod Languages
+mod Names
 mod States
+mod Types
