@@ -4,3 +4,4 @@ mod Languages
 mod Names
 mod States
 mod Types
+mod TypeLaws

@@ -158,10 +158,10 @@ inners_is w =
     (stars inner_as w))
 
 -- a class without its L
-abbrev ClassParts : List ℕ → Type 0
+abbrev pub ClassParts : List ℕ → Type 0
 ClassParts = Cat (Cat BinaryName (Words arguments)) (Words inners)
 
-class_to : (w : List ℕ) (parts : List JPart) → are_parts (map is_part parts) ≡ true → w ≡ parts_text (map part_text parts) → ClassParts w
+pub class_to : (w : List ℕ) (parts : List JPart) → are_parts (map is_part parts) ≡ true → w ≡ parts_text (map part_text parts) → ClassParts w
 class_to w [] is e = absurd (false≢true is)
 class_to w (part ∷ parts) is e =
     let p = (and_true (is_part part is_binary_name) (are_inner parts)).1 is in
@@ -173,7 +173,7 @@ class_to w (part ∷ parts) is e =
       second = (inners_is (inner_text parts)).0 (record { item = parts; is = p.1; whole = refl });
     }
 
-class_back : (w : List ℕ) → ClassParts w → IsTextOf (λ parts. are_parts (map is_part parts)) (λ parts. parts_text (map part_text parts)) w
+pub class_back : (w : List ℕ) → ClassParts w → IsTextOf (λ parts. are_parts (map is_part parts)) (λ parts. parts_text (map part_text parts)) w
 class_back w c =
     let one = (part_is is_binary_name BinaryName binary_name_is c.front).1 c.first in
     let more = (inners_is c.rest).1 c.second in
