@@ -5,3 +5,4 @@ mod Names
 mod States
 mod Types
 mod TypeLaws
+mod Signatures
