@@ -1,12 +1,20 @@
 -- The levels of a right signature are told by its text alone: by its bytes < and >.
-use Rattle.std.proofs.Common.{◌≡◌, refl, sym, ap, ◌∙◌, subst, ℕ, suc, zero, ◌+◌, ◌-◌, ◌<◌, ◌≤◌, ◌≢◌, Bool, true, false, not, ◌&&◌, cond, ◌==◌, eqb-true, List, [], ◌∷◌, ◌++◌, length, map, replicate, if◌then◌else◌, append_assoc, Option, Some, None, arith}
-use Rattle.std.specs.Prelude.{codes}
-use Rattle.std.specs.List.{list_all, list_any, slice_split, onto_first, flat_map, concat}
+use Rattle.std.proofs.Common.{◌≡◌, refl, sym, ap, ◌∙◌, subst, ℕ, suc, zero, ◌+◌, ◌-◌, ◌^◌, Bool, true, false, not, ◌&&◌, cond, ◌==◌, eqb-true, List, [], ◌∷◌, ◌++◌, length, map, replicate, if◌then◌else◌, append_assoc, arith}
+use Rattle.std.specs.Prelude.{codes, nat_le, nat_lt}
+use Rattle.std.specs.List.{list_all, slice_split, onto_first, flat_map, concat}
 use Rattle.std.proofs.lemmas.Bool.{false≢true}
+use Rattle.class_desc.specs.declared.types.JType.{JType, roll-JType, map-JType, ind-JType}
+use Rattle.class_desc.specs.declared.types.JPart.{JPart, roll-JPart, map-JPart}
+use Rattle.class_desc.specs.declared.types.JArg.{JArg, roll-JArg, map-JArg}
+use Rattle.class_desc.specs.declared.types.JArg.TheOpen.{JType-F, JPart-F, JArg-F}
+use Rattle.class_desc.specs.declared.types.JType.TheVariants as type
+use Rattle.class_desc.specs.declared.types.JArg.TheVariants as arg
 use Rattle.class_desc.specs.Names.{is_among}
+use Rattle.class_desc.specs.Types.{type_text, part_text, arg_text, parts_text, args_text}
 use Rattle.class_desc.specs.Descriptor.{is_primitive}
-use Rattle.class_desc.specs.Signature.{is_identifier, is_binary_name}
-use Rattle.class_desc.specs.Nesting.{Levels, flat}
+use Rattle.class_desc.specs.Signature.{Production, Element, Reference, is_identifier, is_binary_name, is_type, is_part, is_arg, are_parts, allows_primitive, allows_variable, allows_array}
+use Rattle.class_desc.specs.Nesting.{flat, type_levels, part_levels, arg_levels, parts_levels, args_levels}
+use Rattle.class_desc.proofs.Layers.{text_void, text_prim, text_named, text_var, text_array, text_rolled_part, text_exact, text_extends, text_super, text_any, form_prim, form_named, form_var, form_array, form_rolled_part, form_exact, form_extends, form_super, levels_void, levels_prim, levels_named, levels_var, levels_array, levels_rolled_part, levels_exact, levels_extends, levels_super, levels_any}
 
 -- the depth after a byte that stands inside type arguments nested so deep
 abbrev pub depth_after : ℕ → ℕ → ℕ
@@ -133,3 +141,133 @@ identifiers_flat (part ∷ parts) are =
 
 binary_name_flat : (name : List ℕ) → is_binary_name name ≡ true → Flat name
 binary_name_flat name is = uncut_flat name (identifiers_flat (slice_split (λ b. b == 47) name) is)
+
+-- ---- types
+
+counts_by : (depth : ℕ) (xs ls ys ms : List ℕ) → ys ≡ xs → ms ≡ ls → CountsAt depth xs ls → CountsAt depth ys ms
+counts_by depth xs ls ys ms text levels counts more = ap (λ t. counted depth (t ++ more)) text ∙ counts more ∙ ap (λ l. l ++ counted depth more) (sym levels)
+
+counts_dims : (depth dims : ℕ) → CountsAt depth (replicate dims 91) (replicate dims 0)
+counts_dims depth zero more = refl
+counts_dims depth (suc dims) more = ap (λ r. 0 ∷ r) (counts_dims depth dims more)
+
+abbrev IsCountedType : JType → Type 0
+IsCountedType ty = (at : Production) → is_type ty at ≡ true → (depth : ℕ) → CountsAt depth (type_text ty) (type_levels ty depth)
+
+abbrev IsCountedPart : JPart → Type 0
+IsCountedPart part = (is_name : List ℕ → Bool) → ((name : List ℕ) → is_name name ≡ true → Flat name) → is_part part is_name ≡ true → (depth : ℕ) → CountsAt depth (part_text part) (part_levels part depth)
+
+abbrev IsCountedArg : JArg → Type 0
+IsCountedArg a = is_arg a ≡ true → (depth : ℕ) → CountsAt depth (arg_text a) (arg_levels a depth)
+
+abbrev CountedType : Type 0
+CountedType = (ty : JType) × IsCountedType ty
+
+abbrev CountedPart : Type 0
+CountedPart = (part : JPart) × IsCountedPart part
+
+abbrev CountedArg : Type 0
+CountedArg = (a : JArg) × IsCountedArg a
+
+-- type arguments
+
+exact_counts : (ty : JType) → IsCountedType ty → IsCountedArg (arg.Exact ty)
+exact_counts ty counts right depth =
+    counts_by depth (type_text ty) (type_levels ty depth) (arg_text (arg.Exact ty)) (arg_levels (arg.Exact ty) depth) (text_exact ty) (levels_exact ty depth) (counts Reference (sym (form_exact ty) ∙ right) depth)
+
+extends_counts : (ty : JType) → IsCountedType ty → IsCountedArg (arg.Extends ty)
+extends_counts ty counts right depth =
+    counts_by depth (43 ∷ type_text ty) (0 ∷ type_levels ty depth) (arg_text (arg.Extends ty)) (arg_levels (arg.Extends ty) depth) (text_extends ty) (levels_extends ty depth) (λ more. ap (λ r. 0 ∷ r) (counts Reference (sym (form_extends ty) ∙ right) depth more))
+
+super_counts : (ty : JType) → IsCountedType ty → IsCountedArg (arg.Super ty)
+super_counts ty counts right depth =
+    counts_by depth (45 ∷ type_text ty) (0 ∷ type_levels ty depth) (arg_text (arg.Super ty)) (arg_levels (arg.Super ty) depth) (text_super ty) (levels_super ty depth) (λ more. ap (λ r. 0 ∷ r) (counts Reference (sym (form_super ty) ∙ right) depth more))
+
+any_counts : IsCountedArg arg.Any
+any_counts right depth = counts_by depth (42 ∷ []) (0 ∷ []) (arg_text arg.Any) (arg_levels arg.Any depth) text_any (levels_any depth) (λ more. refl)
+
+arg_step : (y : JArg-F CountedArg CountedType CountedPart) → IsCountedArg (roll-JArg (map-JArg CountedArg CountedType CountedPart JArg JType JPart (λ e. e.0) (λ e. e.0) (λ e. e.0) y))
+arg_step (JArg-F.Exact ty) = subst IsCountedArg (sym (arg.rolls-Exact ty.0)) (exact_counts ty.0 ty.1)
+arg_step (JArg-F.Extends ty) = subst IsCountedArg (sym (arg.rolls-Extends ty.0)) (extends_counts ty.0 ty.1)
+arg_step (JArg-F.Super ty) = subst IsCountedArg (sym (arg.rolls-Super ty.0)) (super_counts ty.0 ty.1)
+arg_step JArg-F.Any = subst IsCountedArg (sym arg.rolls-Any) any_counts
+
+-- parts
+
+args_count : (args : List CountedArg) → list_all (λ a. a) (map is_arg (map (λ e. e.0) args)) ≡ true → (depth : ℕ) → CountsAt depth (concat (map arg_text (map (λ e. e.0) args))) (flat_map (λ levels. levels depth) (map arg_levels (map (λ e. e.0) args)))
+args_count [] right depth = counts_none depth
+args_count (a ∷ args) right depth =
+    counts_append depth (arg_text a.0) (arg_levels a.0 depth) (concat (map arg_text (map (λ e. e.0) args))) (flat_map (λ levels. levels depth) (map arg_levels (map (λ e. e.0) args)))
+      (a.1 (and_left (is_arg a.0) (list_all (λ a. a) (map is_arg (map (λ e. e.0) args))) right) depth)
+      (args_count args (and_right (is_arg a.0) (list_all (λ a. a) (map is_arg (map (λ e. e.0) args))) right) depth)
+
+arguments_count : (args : List CountedArg) → list_all (λ a. a) (map is_arg (map (λ e. e.0) args)) ≡ true → (depth : ℕ) → CountsAt depth (args_text (map arg_text (map (λ e. e.0) args))) (args_levels (map arg_levels (map (λ e. e.0) args)) depth)
+arguments_count [] right depth = counts_none depth
+arguments_count (a ∷ args) right depth =
+    counts_arguments depth (concat (map arg_text (map (λ e. e.0) (a ∷ args)))) (flat_map (λ levels. levels (depth + 1)) (map arg_levels (map (λ e. e.0) (a ∷ args)))) (args_count (a ∷ args) right (depth + 1))
+
+part_step : (y : JPart-F CountedArg CountedType CountedPart) → IsCountedPart (roll-JPart (map-JPart CountedArg CountedType CountedPart JArg JType JPart (λ e. e.0) (λ e. e.0) (λ e. e.0) y))
+part_step y is_name flatly right depth =
+    let layer = map-JPart CountedArg CountedType CountedPart JArg JType JPart (λ e. e.0) (λ e. e.0) (λ e. e.0) y in
+    let form = sym (form_rolled_part layer is_name) ∙ right in
+    counts_by depth (layer.name ++ args_text (map arg_text layer.args)) (flat layer.name ++ args_levels (map arg_levels layer.args) depth) (part_text (roll-JPart layer)) (part_levels (roll-JPart layer) depth) (text_rolled_part layer) (levels_rolled_part layer depth)
+      (counts_append depth layer.name (flat layer.name) (args_text (map arg_text layer.args)) (args_levels (map arg_levels layer.args) depth)
+        (counts_flat depth layer.name (flatly layer.name (and_left (is_name layer.name) (list_all (λ a. a) (map is_arg layer.args)) form)))
+        (arguments_count y.args (and_right (is_name layer.name) (list_all (λ a. a) (map is_arg layer.args)) form) depth))
+
+-- types
+
+void_counts : IsCountedType type.Void
+void_counts at right depth = counts_by depth (86 ∷ []) (0 ∷ []) (type_text type.Void) (type_levels type.Void depth) text_void (levels_void depth) (λ more. refl)
+
+prim_counts : (letter : ℕ) → IsCountedType (type.Prim letter)
+prim_counts letter at right depth =
+    let form = and_right (allows_primitive at) (is_primitive letter) (sym (form_prim letter at) ∙ right) in
+    counts_by depth (letter ∷ []) (0 ∷ []) (type_text (type.Prim letter)) (type_levels (type.Prim letter) depth) (text_prim letter) (levels_prim letter depth)
+      (counts_flat depth (letter ∷ []) (both (is_flat letter) true (primitive_flat letter form) refl))
+
+var_counts : (name : List ℕ) → IsCountedType (type.Var name)
+var_counts name at right depth =
+    let form = and_right (allows_variable at) (is_identifier name) (sym (form_var name at) ∙ right) in
+    counts_by depth (84 ∷ name ++ (59 ∷ [])) (0 ∷ flat name ++ (0 ∷ [])) (type_text (type.Var name)) (type_levels (type.Var name) depth) (text_var name) (levels_var name depth)
+      (λ more. ap (λ r. 0 ∷ r) (counts_append depth name (flat name) (59 ∷ []) (0 ∷ []) (counts_flat depth name (identifier_flat name form)) (λ more. refl) more))
+
+array_counts : (element : JType) (dims : ℕ) → IsCountedType element → IsCountedType (type.Array element dims)
+array_counts element dims counts at right depth =
+    let form = and_right (allows_array at && nat_le 1 dims && nat_lt dims (2 ^ 32)) (is_type element Element) (sym (form_array element dims at) ∙ right) in
+    counts_by depth (replicate dims 91 ++ type_text element) (replicate dims 0 ++ type_levels element depth) (type_text (type.Array element dims)) (type_levels (type.Array element dims) depth) (text_array element dims) (levels_array element dims depth)
+      (counts_append depth (replicate dims 91) (replicate dims 0) (type_text element) (type_levels element depth) (counts_dims depth dims) (counts Element form depth))
+
+later_parts_count : (parts : List CountedPart) → list_all (λ part. part is_identifier) (map is_part (map (λ e. e.0) parts)) ≡ true → (depth : ℕ) → CountsAt depth (flat_map (λ part. codes "." ++ part) (map part_text (map (λ e. e.0) parts))) (flat_map (λ part. 0 ∷ part depth) (map part_levels (map (λ e. e.0) parts)))
+later_parts_count [] right depth = counts_none depth
+later_parts_count (part ∷ parts) right depth =
+    counts_append depth (46 ∷ part_text part.0) (0 ∷ part_levels part.0 depth) (flat_map (λ part. codes "." ++ part) (map part_text (map (λ e. e.0) parts))) (flat_map (λ part. 0 ∷ part depth) (map part_levels (map (λ e. e.0) parts)))
+      (λ more. ap (λ r. 0 ∷ r) (part.1 is_identifier identifier_flat (and_left (is_part part.0 is_identifier) (list_all (λ part. part is_identifier) (map is_part (map (λ e. e.0) parts))) right) depth more))
+      (later_parts_count parts (and_right (is_part part.0 is_identifier) (list_all (λ part. part is_identifier) (map is_part (map (λ e. e.0) parts))) right) depth)
+
+parts_count : (parts : List CountedPart) → are_parts (map is_part (map (λ e. e.0) parts)) ≡ true → (depth : ℕ) → CountsAt depth (parts_text (map part_text (map (λ e. e.0) parts))) (parts_levels (map part_levels (map (λ e. e.0) parts)) depth)
+parts_count [] right depth = counts_none depth
+parts_count (part ∷ parts) right depth =
+    counts_append depth (part_text part.0) (part_levels part.0 depth) (flat_map (λ part. codes "." ++ part) (map part_text (map (λ e. e.0) parts))) (flat_map (λ part. 0 ∷ part depth) (map part_levels (map (λ e. e.0) parts)))
+      (part.1 is_binary_name binary_name_flat (and_left (is_part part.0 is_binary_name) (list_all (λ part. part is_identifier) (map is_part (map (λ e. e.0) parts))) right) depth)
+      (later_parts_count parts (and_right (is_part part.0 is_binary_name) (list_all (λ part. part is_identifier) (map is_part (map (λ e. e.0) parts))) right) depth)
+
+named_counts : (parts : List CountedPart) → IsCountedType (type.Named (map (λ e. e.0) parts))
+named_counts parts at right depth =
+    let bare : List JPart = map (λ e. e.0) parts in
+    counts_by depth (76 ∷ parts_text (map part_text bare) ++ (59 ∷ [])) (0 ∷ parts_levels (map part_levels bare) depth ++ (0 ∷ [])) (type_text (type.Named bare)) (type_levels (type.Named bare) depth) (text_named bare) (levels_named bare depth)
+      (λ more. ap (λ r. 0 ∷ r) (counts_append depth (parts_text (map part_text bare)) (parts_levels (map part_levels bare) depth) (59 ∷ []) (0 ∷ []) (parts_count parts (sym (form_named bare at) ∙ right) depth) (λ more. refl) more))
+
+type_step : (y : JType-F CountedArg CountedType CountedPart) → IsCountedType (roll-JType (map-JType CountedArg CountedType CountedPart JArg JType JPart (λ e. e.0) (λ e. e.0) (λ e. e.0) y))
+type_step JType-F.Void = subst IsCountedType (sym type.rolls-Void) void_counts
+type_step (JType-F.Prim letter) = subst IsCountedType (sym (type.rolls-Prim letter)) (prim_counts letter)
+type_step (JType-F.Named parts) = subst IsCountedType (sym (type.rolls-Named (map (λ e. e.0) parts))) (named_counts parts)
+type_step (JType-F.Var name) = subst IsCountedType (sym (type.rolls-Var name)) (var_counts name)
+type_step (JType-F.Array element dims) = subst IsCountedType (sym (type.rolls-Array element.0 dims)) (array_counts element.0 dims element.1)
+
+-- each layer comes with a proof beside each part
+pub type_counts : (ty : JType) → IsCountedType ty
+type_counts = ind-JType IsCountedArg IsCountedType IsCountedPart
+    (λ x y is. subst (λ layer. IsCountedArg (roll-JArg layer)) is (arg_step y))
+    (λ x y is. subst (λ layer. IsCountedType (roll-JType layer)) is (type_step y))
+    (λ x y is. subst (λ layer. IsCountedPart (roll-JPart layer)) is (part_step y))
