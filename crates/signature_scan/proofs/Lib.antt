@@ -6,3 +6,4 @@ mod States
 mod Types
 mod TypeLaws
 mod Signatures
+mod Lives

@@ -12,7 +12,7 @@ use Rattle.class_desc.specs.Signature.{AnyResult, AnyType, Reference, Thrown, Cl
 use Rattle.signature_scan.specs.declared.place.SigPlace.{SigPlace}
 use Rattle.signature_scan.specs.declared.place.SigPlace.TheVariants.{ClassPlace, MethodPlace, FieldPlace}
 use Rattle.signature_scan.specs.Scanned.{place_of}
-use Rattle.signature_scan.specs.Machine.{start}
+use Rattle.signature_scan.specs.declared.state.State.TheVariants as state
 use Rattle.signature_scan.proofs.Languages.{same, and_then, turned, Cat, Star, stars}
 use Rattle.signature_scan.proofs.Expressions.{Expr, Byte, NameByte, Many, Maybe, Both, Kind, Words, Rows, AnyRow, IsTextOf, IsKind, names, one_row, row_one, and_true, parts_is}
 use Rattle.signature_scan.proofs.Names.{Identifier, identifier_is}
@@ -250,7 +250,7 @@ field_back : (w : List ℕ) → Rows (body_row FieldPlace) w → Spelled AtField
 field_back w c = let t = (row_one (Kind Reference) w).0 c in (OfField t.item, record { form = t.is; whole = t.whole })
 
 -- what may follow at the start is a signature
-pub start_is : (place : SigPlace) (w : List ℕ) → AnyRow (rows (start place)) w ↔ Spelled (place_of place) w
+pub start_is : (place : SigPlace) (w : List ℕ) → AnyRow (rows (state.Start place)) w ↔ Spelled (place_of place) w
 start_is ClassPlace w = and_then (one_row (parameters ∷ body_row ClassPlace) w) (λ r. class_back w r, λ s. class_to w s.0 s.1.form s.1.whole)
 start_is MethodPlace w = and_then (one_row (parameters ∷ body_row MethodPlace) w) (λ r. method_back w r, λ s. method_to w s.0 s.1.form s.1.whole)
 start_is FieldPlace w = and_then (one_row (body_row FieldPlace) w) (λ r. field_back w r, λ s. field_to w s.0 s.1.form s.1.whole)

@@ -66,9 +66,14 @@ colon_row place = Maybe (Kind Reference) ∷ outermost (around.Bounds place)
 abbrev pub name_row : SigPlace → List Expr
 name_row place = names ∷ Byte 58 ∷ colon_row place
 
+abbrev pub start_row : SigPlace → List Expr
+start_row ClassPlace = parameters ∷ body_row ClassPlace
+start_row MethodPlace = parameters ∷ body_row MethodPlace
+start_row FieldPlace = body_row FieldPlace
+
 -- what may follow in a state
 abbrev pub rows : State → List (List Expr)
-rows (state.Start place) = (parameters ∷ body_row place) ∷ []
+rows (state.Start place) = start_row place ∷ []
 rows (state.Parameter place) = (parameter ∷ Many parameter ∷ Byte 62 ∷ body_row place) ∷ []
 rows (state.ParameterName place) = name_row place ∷ []
 rows (state.FirstBound place) = colon_row place ∷ []

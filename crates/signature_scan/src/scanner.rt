@@ -13,7 +13,7 @@ pub fn scan(text: &[u8], place: SigPlace) -> Verdict
     requires { length text.now < 2 ^ 32 }
     ensures { Scanned (place_of place) text.now result }
 {
-    let mut state = State::start(place);
+    let mut state = State::Start(place);
     let mut too_deep = None;
     for (index, byte) in text.iter().enumerate() {
         let at = index as u32;

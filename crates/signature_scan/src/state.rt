@@ -52,15 +52,6 @@ pub enum State {
 }
 
 impl State {
-    pub fn start(place: SigPlace) -> State
-        ensures { result ≡ machine.start place }
-    {
-        match place {
-            SigPlace::ClassPlace | SigPlace::MethodPlace => State::Start(place),
-            SigPlace::FieldPlace => State::body(place),
-        }
-    }
-
     /// Behind the type parameters.
     fn body(place: SigPlace) -> State
         ensures { result ≡ machine.body place }
@@ -89,7 +80,7 @@ impl State {
     {
         match self {
             State::Start(place) => {
-                if byte == b'<' {
+                if byte == b'<' && has_parameters(place) {
                     Some(State::Parameter(place))
                 } else {
                     begun(place, byte)
@@ -134,6 +125,13 @@ impl State {
             _ => 0,
         }
     }
+}
+
+/// Whether a signature at this place may have type parameters.
+fn has_parameters(place: SigPlace) -> bool
+    ensures { result ≡ machine.has_parameters place }
+{
+    !matches!(place, SigPlace::FieldPlace)
 }
 
 fn may_end(around: Around) -> bool
