@@ -7,3 +7,5 @@ mod Types
 mod TypeLaws
 mod Signatures
 mod Lives
+mod Depths
+mod Verdicts

@@ -14,7 +14,7 @@ use Rattle.signature_scan.specs.Machine.{is_whole}
 use Rattle.signature_scan.proofs.Languages.{same, and_then, turned, either, pair, same_test, cat_empty, star_none}
 use Rattle.signature_scan.proofs.Expressions.{Expr, Byte, NameByte, Many, Maybe, Or, Both, Kind, Dims, Words, Rows, AnyRow, IsKind, names, slashes, arguments, inners, can_end, and_true, or_true}
 use Rattle.signature_scan.proofs.TypeLaws.{ends, goes}
-use Rattle.signature_scan.proofs.States.{rows, part_row, beyond, outermost}
+use Rattle.signature_scan.proofs.States.{rows, part_row, beyond, outermost, parameter, body_row, start_row, colon_row, name_row}
 
 -- ---- each expression has a word
 
@@ -56,13 +56,13 @@ first_row : (es : List Expr) (more : List (List Expr)) → (w : List ℕ) × Any
 first_row es more = let r = row_sample es in (r.0, inl r.1)
 
 pub lives : (s : State) → (w : List ℕ) × AnyRow (rows s) w
-lives (state.Start place) = first_row _ []
-lives (state.Parameter place) = first_row _ []
-lives (state.ParameterName place) = first_row _ []
-lives (state.FirstBound place) = first_row _ []
-lives (state.ClassOrName place started) = first_row (part_row (part.ClassName started) ++ outermost (around.Bounds place)) _
-lives (state.VariableOrName place started) = first_row (part_row (part.VariableName started) ++ outermost (around.Bounds place)) _
-lives state.Parenthesis = first_row _ []
+lives (state.Start place) = first_row (start_row place) []
+lives (state.Parameter place) = first_row (parameter ∷ Many parameter ∷ Byte 62 ∷ body_row place) []
+lives (state.ParameterName place) = first_row (name_row place) []
+lives (state.FirstBound place) = first_row (colon_row place) []
+lives (state.ClassOrName place started) = first_row (part_row (part.ClassName started) ++ outermost (around.Bounds place)) (name_row place ∷ [])
+lives (state.VariableOrName place started) = first_row (part_row (part.VariableName started) ++ outermost (around.Bounds place)) (name_row place ∷ [])
+lives state.Parenthesis = first_row (body_row MethodPlace) []
 lives (state.Behind a depth) = first_row (beyond a depth) []
 lives (state.Within p a depth) = first_row (part_row p ++ beyond a depth) []
 

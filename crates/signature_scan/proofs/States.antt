@@ -90,12 +90,12 @@ rows_if (Some s) = rows s
 -- ---- the table
 
 -- the numbers below k, the greatest first
-abbrev below : ℕ → List ℕ
+abbrev pub below : ℕ → List ℕ
 below zero = []
 below (suc k) = k ∷ below k
 
 -- two functions with the same values below k are one there
-same_below : {A : Type 0} (f g : ℕ → A) (k b : ℕ) → map f (below k) ≡ map g (below k) → b < k → f b ≡ g b
+pub same_below : {A : Type 0} (f g : ℕ → A) (k b : ℕ) → map f (below k) ≡ map g (below k) → b < k → f b ≡ g b
 same_below f g zero b e h = absurd (omega arith)
 same_below f g (suc k) b e h = elim (cases_lt b k) [
   | inl l ↦ same_below f g k b (cc) l
