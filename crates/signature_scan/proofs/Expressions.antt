@@ -144,18 +144,18 @@ pub any_append : (xs ys : List (List Expr)) (w : List ℕ) → AnyRow (xs ++ ys)
 any_append [] ys w = (λ y. inr y, λ s. elim s as (λ s. AnyRow ys w) [ inl x ↦ absurd x | inr y ↦ y ])
 any_append (x ∷ xs) ys w = and_then (either same (any_append xs ys w)) regroup
   where
-  to : Rows x w ⊎ (AnyRow xs w ⊎ AnyRow ys w) → (Rows x w ⊎ AnyRow xs w) ⊎ AnyRow ys w
-  to (inl r) = inl (inl r)
-  to (inr (inl r)) = inl (inr r)
-  to (inr (inr r)) = inr r
+    to : Rows x w ⊎ (AnyRow xs w ⊎ AnyRow ys w) → (Rows x w ⊎ AnyRow xs w) ⊎ AnyRow ys w
+    to (inl r) = inl (inl r)
+    to (inr (inl r)) = inl (inr r)
+    to (inr (inr r)) = inr r
 
-  back : (Rows x w ⊎ AnyRow xs w) ⊎ AnyRow ys w → Rows x w ⊎ (AnyRow xs w ⊎ AnyRow ys w)
-  back (inl (inl r)) = inl r
-  back (inl (inr r)) = inr (inl r)
-  back (inr r) = inr (inr r)
+    back : (Rows x w ⊎ AnyRow xs w) ⊎ AnyRow ys w → Rows x w ⊎ (AnyRow xs w ⊎ AnyRow ys w)
+    back (inl (inl r)) = inl r
+    back (inl (inr r)) = inr (inl r)
+    back (inr r) = inr (inr r)
 
-  regroup : (Rows x w ⊎ (AnyRow xs w ⊎ AnyRow ys w)) ↔ ((Rows x w ⊎ AnyRow xs w) ⊎ AnyRow ys w)
-  regroup = (to, back)
+    regroup : (Rows x w ⊎ (AnyRow xs w ⊎ AnyRow ys w)) ↔ ((Rows x w ⊎ AnyRow xs w) ⊎ AnyRow ys w)
+    regroup = (to, back)
 
 pub only_is : (test : Bool) (rows : List (List Expr)) (w : List ℕ) → AnyRow (only test rows) w ↔ ((test ≡ true) × AnyRow rows w)
 only_is true rows w = (λ r. (refl, r), λ p. p.1)
@@ -217,20 +217,20 @@ derive_all_is ends goes (row ∷ rows) b w =
 pub byte_after : (n : ℕ) → AfterIs (Byte n)
 byte_after n b w = and_then (to, back) (turned (only_is (b == n) ([] ∷ []) w))
   where
-  to : b ∷ w ≡ n ∷ [] → (b == n ≡ true) × AnyRow ([] ∷ []) w
-  to e = let head : b ≡ n = cc in let tail : w ≡ [] = cc in (eq-eqb b n head, inl tail)
+    to : b ∷ w ≡ n ∷ [] → (b == n ≡ true) × AnyRow ([] ∷ []) w
+    to e = let head : b ≡ n = cc in let tail : w ≡ [] = cc in (eq-eqb b n head, inl tail)
 
-  back : (b == n ≡ true) × AnyRow ([] ∷ []) w → b ∷ w ≡ n ∷ []
-  back p = let head = eqb-true b n p.0 in let tail = (one_row [] w).0 p.1 in cc
+    back : (b == n ≡ true) × AnyRow ([] ∷ []) w → b ∷ w ≡ n ∷ []
+    back p = let head = eqb-true b n p.0 in let tail = (one_row [] w).0 p.1 in cc
 
 pub name_byte_after : AfterIs NameByte
 name_byte_after b w = and_then (to, back) (turned (only_is (is_name_byte b) ([] ∷ []) w))
   where
-  to : IsNameByte (b ∷ w) → (is_name_byte b ≡ true) × AnyRow ([] ∷ []) w
-  to x = let e = x.text in let head : x.byte ≡ b = cc in let tail : w ≡ [] = cc in (rw head at x.is, inl tail)
+    to : IsNameByte (b ∷ w) → (is_name_byte b ≡ true) × AnyRow ([] ∷ []) w
+    to x = let e = x.text in let head : x.byte ≡ b = cc in let tail : w ≡ [] = cc in (rw head at x.is, inl tail)
 
-  back : (is_name_byte b ≡ true) × AnyRow ([] ∷ []) w → IsNameByte (b ∷ w)
-  back p = record { byte = b; is = p.0; text = ap (λ v. b ∷ v) ((one_row [] w).0 p.1) }
+    back : (is_name_byte b ≡ true) × AnyRow ([] ∷ []) w → IsNameByte (b ∷ w)
+    back p = record { byte = b; is = p.0; text = ap (λ v. b ∷ v) ((one_row [] w).0 p.1) }
 
 pub maybe_after : (e : Expr) → AfterIs e → AfterIs (Maybe e)
 maybe_after e goes b w = and_then (λ s. elim s as (λ s. Words e (b ∷ w)) [ inl x ↦ absurd (cc) | inr y ↦ y ], λ y. inr y) (goes b w)

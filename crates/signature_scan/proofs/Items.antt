@@ -8,8 +8,9 @@ use Rattle.signature_scan.proofs.Expressions.{Byte, Words, IsTextOf, and_true}
 -- the same test and text in other words
 pub texts_as : {T : Type 0} (test test' : T → Bool) (text text' : T → List ℕ) → ((x : T) → test x ≡ test' x) → ((x : T) → text x ≡ text' x) → (w : List ℕ) → IsTextOf test text w ↔ IsTextOf test' text' w
 texts_as test test' text text' tests texts w = (
-    λ t. record { item = t.item; is = sym (tests t.item) ∙ t.is; whole = t.whole ∙ texts t.item },
-    λ t. record { item = t.item; is = tests t.item ∙ t.is; whole = t.whole ∙ sym (texts t.item) })
+  λ t. record { item = t.item; is = sym (tests t.item) ∙ t.is; whole = t.whole ∙ texts t.item },
+  λ t. record { item = t.item; is = tests t.item ∙ t.is; whole = t.whole ∙ sym (texts t.item) },
+)
 
 module _ {T : Type 0} (test : T → Bool) (text : T → List ℕ) (L : List ℕ → Type 0) (one : (v : List ℕ) → IsTextOf test text v ↔ L v) where
   list_to : (xs : List T) → list_all test xs ≡ true → (w : List ℕ) → w ≡ flat_map text xs → Star L w
@@ -42,9 +43,10 @@ module _ {T : Type 0} (test : T → Bool) (text : T → List ℕ) (L : List ℕ 
   -- a byte in front of the text
   pub behind_byte : (n : ℕ) (w : List ℕ) → IsTextOf test (λ x. n ∷ text x) w ↔ Cat (Words (Byte n)) L w
   behind_byte n w = (
-      λ t. record { front = n ∷ []; rest = text t.item; whole = t.whole; first = refl; second = (one (text t.item)).0 (record { item = t.item; is = t.is; whole = refl }) },
-      λ c. (let t = (one c.rest).1 c.second in
-          record { item = t.item; is = t.is; whole = c.whole ∙ ap (λ (v : List ℕ). v ++ c.rest) c.first ∙ ap (λ (v : List ℕ). n ∷ v) t.whole }))
+    λ t. record { front = n ∷ []; rest = text t.item; whole = t.whole; first = refl; second = (one (text t.item)).0 (record { item = t.item; is = t.is; whole = refl }) },
+    λ c. (let t = (one c.rest).1 c.second in
+        record { item = t.item; is = t.is; whole = c.whole ∙ ap (λ (v : List ℕ). v ++ c.rest) c.first ∙ ap (λ (v : List ℕ). n ∷ v) t.whole }),
+  )
 
 pub all_map : {A B : Type 0} (test : B → Bool) (f : A → B) (xs : List A) → list_all test (map f xs) ≡ list_all (λ x. test (f x)) xs
 all_map test f [] = refl

@@ -76,9 +76,9 @@ cat_cons L K b w = (λ c. split_cons L K b w c.front c.rest c.whole c.first c.se
 pub cat_first : (K : List ℕ → Type 0) (w : List ℕ) → Cat Empty K w ↔ K w
 cat_first K w = (λ c. by c.front c.rest c.whole c.first c.second, λ k. record { front = []; rest = w; whole = refl; first = refl; second = k })
   where
-  by : (front rest : List ℕ) → w ≡ front ++ rest → front ≡ [] → K rest → K w
-  by [] rest e f k = rw e k
-  by (b ∷ front) rest e f k = absurd (cc)
+    by : (front rest : List ℕ) → w ≡ front ++ rest → front ≡ [] → K rest → K w
+    by [] rest e f k = rw e k
+    by (b ∷ front) rest e f k = absurd (cc)
 
 append_nothing : (xs : List ℕ) → xs ++ [] ≡ xs
 append_nothing [] = refl
@@ -87,26 +87,27 @@ append_nothing (x ∷ xs) = ap (λ v. x ∷ v) (append_nothing xs)
 pub cat_last : (L : List ℕ → Type 0) (w : List ℕ) → Cat L Empty w ↔ L w
 cat_last L w = (λ c. by c.front c.rest c.whole c.first c.second, λ l. record { front = w; rest = []; whole = sym (append_nothing w); first = l; second = refl })
   where
-  by : (front rest : List ℕ) → w ≡ front ++ rest → L front → rest ≡ [] → L w
-  by front [] e l r = let same : w ≡ front = e ∙ append_nothing front in rw same l
-  by front (b ∷ rest) e l r = absurd (cc)
+    by : (front rest : List ℕ) → w ≡ front ++ rest → L front → rest ≡ [] → L w
+    by front [] e l r = let same : w ≡ front = e ∙ append_nothing front in rw same l
+    by front (b ∷ rest) e l r = absurd (cc)
 
 pub cat_assoc : (L K M : List ℕ → Type 0) (w : List ℕ) → Cat (Cat L K) M w ↔ Cat L (Cat K M) w
 cat_assoc L K M w = (
-    λ c. record {
-      front = c.first.front;
-      rest = c.first.rest ++ c.rest;
-      whole = c.whole ∙ ap (λ v. v ++ c.rest) c.first.whole ∙ append_assoc c.first.front c.first.rest c.rest;
-      first = c.first.first;
-      second = record { front = c.first.rest; rest = c.rest; whole = refl; first = c.first.second; second = c.second };
-    },
-    λ c. record {
-      front = c.front ++ c.second.front;
-      rest = c.second.rest;
-      whole = c.whole ∙ ap (λ v. c.front ++ v) c.second.whole ∙ sym (append_assoc c.front c.second.front c.second.rest);
-      first = record { front = c.front; rest = c.second.front; whole = refl; first = c.first; second = c.second.first };
-      second = c.second.second;
-    })
+  λ c. record {
+    front = c.first.front;
+    rest = c.first.rest ++ c.rest;
+    whole = c.whole ∙ ap (λ v. v ++ c.rest) c.first.whole ∙ append_assoc c.first.front c.first.rest c.rest;
+    first = c.first.first;
+    second = record { front = c.first.rest; rest = c.rest; whole = refl; first = c.first.second; second = c.second };
+  },
+  λ c. record {
+    front = c.front ++ c.second.front;
+    rest = c.second.rest;
+    whole = c.whole ∙ ap (λ v. c.front ++ v) c.second.whole ∙ sym (append_assoc c.front c.second.front c.second.rest);
+    first = record { front = c.front; rest = c.second.front; whole = refl; first = c.first; second = c.second.first };
+    second = c.second.second;
+  },
+)
 
 cat_or_to : (L M K : List ℕ → Type 0) (w front rest : List ℕ) → w ≡ front ++ rest → L front ⊎ M front → K rest → Cat L K w ⊎ Cat M K w
 cat_or_to L M K w front rest e (inl l) k = inl (record { front = front; rest = rest; whole = e; first = l; second = k })
@@ -138,9 +139,9 @@ star_cons_to : (L : List ℕ → Type 0) (b : ℕ) (w : List ℕ) (n : ℕ) → 
 star_cons_to L b w zero e = absurd (cc)
 star_cons_to L b w (suc n) c = by (star_cons_to L b w n) ((cat_cons L (Times L n) b w).0 c)
   where
-  by : (Times L n (b ∷ w) → Cat (λ v. L (b ∷ v)) (Star L) w) → (L [] × Times L n (b ∷ w)) ⊎ Cat (λ v. L (b ∷ v)) (Times L n) w → Cat (λ v. L (b ∷ v)) (Star L) w
-  by again (inl p) = again p.1
-  by again (inr d) = record { front = d.front; rest = d.rest; whole = d.whole; first = d.first; second = (n, d.second) }
+    by : (Times L n (b ∷ w) → Cat (λ v. L (b ∷ v)) (Star L) w) → (L [] × Times L n (b ∷ w)) ⊎ Cat (λ v. L (b ∷ v)) (Times L n) w → Cat (λ v. L (b ∷ v)) (Star L) w
+    by again (inl p) = again p.1
+    by again (inr d) = record { front = d.front; rest = d.rest; whole = d.whole; first = d.first; second = (n, d.second) }
 
 -- a word that begins with the byte
 pub star_cons : (L : List ℕ → Type 0) (b : ℕ) (w : List ℕ) → Star L (b ∷ w) ↔ Cat (λ v. L (b ∷ v)) (Star L) w

@@ -30,12 +30,35 @@ sample (Dims most) = 76 ∷ 65 ∷ 59 ∷ []
 
 some_class : (at : Production) → IsKind at (76 ∷ 65 ∷ 59 ∷ [])
 some_class at = (goes (Kind at) 76 (65 ∷ 59 ∷ [])).1 (inl (record {
-  front = 65 ∷ []; rest = 59 ∷ []; whole = refl; first = record { byte = 65; is = refl; text = refl };
-  second = record { front = []; rest = 59 ∷ []; whole = refl; first = star_none (Words NameByte);
-    second = record { front = []; rest = 59 ∷ []; whole = refl; first = star_none (Words (Both (Both (Byte 47) NameByte) names));
-      second = record { front = []; rest = 59 ∷ []; whole = refl; first = inl refl;
-        second = record { front = []; rest = 59 ∷ []; whole = refl; first = star_none (Words (Both (Both (Both (Byte 46) NameByte) names) arguments));
-          second = record { front = 59 ∷ []; rest = []; whole = refl; first = refl; second = refl } } } } };
+  front = 65 ∷ [];
+  rest = 59 ∷ [];
+  whole = refl;
+  first = record { byte = 65; is = refl; text = refl };
+  second = record {
+    front = [];
+    rest = 59 ∷ [];
+    whole = refl;
+    first = star_none (Words NameByte);
+    second = record {
+      front = [];
+      rest = 59 ∷ [];
+      whole = refl;
+      first = star_none (Words (Both (Both (Byte 47) NameByte) names));
+      second = record {
+        front = [];
+        rest = 59 ∷ [];
+        whole = refl;
+        first = inl refl;
+        second = record {
+          front = [];
+          rest = 59 ∷ [];
+          whole = refl;
+          first = star_none (Words (Both (Both (Both (Byte 46) NameByte) names) arguments));
+          second = record { front = 59 ∷ []; rest = []; whole = refl; first = refl; second = refl };
+        };
+      };
+    };
+  };
 }))
 
 sample_is : (e : Expr) → Words e (sample e)

@@ -14,22 +14,22 @@ use Rattle.signature_scan.proofs.Expressions.{Expr, Byte, NameByte, Many, Both, 
 pub name_cons : (K : List ℕ → Type 0) (b : ℕ) (w : List ℕ) → Cat IsNameByte K (b ∷ w) ↔ ((is_name_byte b ≡ true) × K w)
 name_cons K b w = (to, λ p. record { front = b ∷ []; rest = w; whole = refl; first = record { byte = b; is = p.0; text = refl }; second = p.1 })
   where
-  to : Cat IsNameByte K (b ∷ w) → (is_name_byte b ≡ true) × K w
-  to c =
-      let e : b ∷ w ≡ c.first.byte ∷ c.rest = c.whole ∙ ap (λ (v : List ℕ). v ++ c.rest) c.first.text in
-      let head : c.first.byte ≡ b = cc in
-      let tail : c.rest ≡ w = cc in
-      (subst (λ d. is_name_byte d ≡ true) head c.first.is, subst K tail c.second)
+    to : Cat IsNameByte K (b ∷ w) → (is_name_byte b ≡ true) × K w
+    to c =
+        let e : b ∷ w ≡ c.first.byte ∷ c.rest = c.whole ∙ ap (λ (v : List ℕ). v ++ c.rest) c.first.text in
+        let head : c.first.byte ≡ b = cc in
+        let tail : c.rest ≡ w = cc in
+        (subst (λ d. is_name_byte d ≡ true) head c.first.is, subst K tail c.second)
 
 pub byte_cons : (n : ℕ) (K : List ℕ → Type 0) (b : ℕ) (w : List ℕ) → Cat (Words (Byte n)) K (b ∷ w) ↔ ((b ≡ n) × K w)
 byte_cons n K b w = (to, λ p. record { front = n ∷ []; rest = w; whole = ap (λ (c : ℕ). c ∷ w) p.0; first = refl; second = p.1 })
   where
-  to : Cat (Words (Byte n)) K (b ∷ w) → (b ≡ n) × K w
-  to c =
-      let e : b ∷ w ≡ n ∷ c.rest = c.whole ∙ ap (λ (v : List ℕ). v ++ c.rest) c.first in
-      let head : b ≡ n = cc in
-      let tail : c.rest ≡ w = cc in
-      (head, subst K tail c.second)
+    to : Cat (Words (Byte n)) K (b ∷ w) → (b ≡ n) × K w
+    to c =
+        let e : b ∷ w ≡ n ∷ c.rest = c.whole ∙ ap (λ (v : List ℕ). v ++ c.rest) c.first in
+        let head : b ≡ n = cc in
+        let tail : c.rest ≡ w = cc in
+        (head, subst K tail c.second)
 
 no_name_byte : IsNameByte [] → ⊥
 no_name_byte x = let e = x.text in absurd (cc)
@@ -97,14 +97,14 @@ slash_cons b w =
 names_then : (K : List ℕ → Type 0) (b : ℕ) (w : List ℕ) → Cat (Words names) K (b ∷ w) ↔ (((is_name_byte b ≡ true) × Cat (Words names) K w) ⊎ K (b ∷ w))
 names_then K b w = (λ c. to c.front c.rest c.whole ((star_step IsNameByte c.front).0 c.first) c.second, back)
   where
-  to : (front rest : List ℕ) → b ∷ w ≡ front ++ rest → (front ≡ []) ⊎ Cat IsNameByte (Words names) front → K rest → ((is_name_byte b ≡ true) × Cat (Words names) K w) ⊎ K (b ∷ w)
-  to front rest e (inl none) k = inr (subst K (sym (e ∙ ap (λ (v : List ℕ). v ++ rest) none)) k)
-  to front rest e (inr c) k = inl ((name_cons (Cat (Words names) K) b w).0 ((cat_assoc IsNameByte (Words names) K (b ∷ w)).0 (record { front = front; rest = rest; whole = e; first = c; second = k })))
+    to : (front rest : List ℕ) → b ∷ w ≡ front ++ rest → (front ≡ []) ⊎ Cat IsNameByte (Words names) front → K rest → ((is_name_byte b ≡ true) × Cat (Words names) K w) ⊎ K (b ∷ w)
+    to front rest e (inl none) k = inr (subst K (sym (e ∙ ap (λ (v : List ℕ). v ++ rest) none)) k)
+    to front rest e (inr c) k = inl ((name_cons (Cat (Words names) K) b w).0 ((cat_assoc IsNameByte (Words names) K (b ∷ w)).0 (record { front = front; rest = rest; whole = e; first = c; second = k })))
 
-  back : ((is_name_byte b ≡ true) × Cat (Words names) K w) ⊎ K (b ∷ w) → Cat (Words names) K (b ∷ w)
-  back (inl p) = let c = (cat_assoc IsNameByte (Words names) K (b ∷ w)).1 ((name_cons (Cat (Words names) K) b w).1 p) in
-      record { front = c.front; rest = c.rest; whole = c.whole; first = star_more IsNameByte c.front c.first; second = c.second }
-  back (inr k) = record { front = []; rest = b ∷ w; whole = refl; first = star_none IsNameByte; second = k }
+    back : ((is_name_byte b ≡ true) × Cat (Words names) K w) ⊎ K (b ∷ w) → Cat (Words names) K (b ∷ w)
+    back (inl p) = let c = (cat_assoc IsNameByte (Words names) K (b ∷ w)).1 ((name_cons (Cat (Words names) K) b w).1 p) in
+        record { front = c.front; rest = c.rest; whole = c.whole; first = star_more IsNameByte c.front c.first; second = c.second }
+    back (inr k) = record { front = []; rest = b ∷ w; whole = refl; first = star_none IsNameByte; second = k }
 
 open_cons : (b : ℕ) (w : List ℕ) → Open (b ∷ w) ↔ (((is_name_byte b ≡ true) × Open w) ⊎ ((b ≡ 47) × BinaryName w))
 open_cons b w = and_then (names_then (Words slashes) b w) (either same (slash_cons b w))
@@ -130,8 +130,9 @@ cut_slash b bytes e is more = record {
       (and_then (turned (known e))
       (and_then (turned (only_right (λ p. no_slash b e p.0))) (turned (open_cons b bytes)))));
   all_is = (
-      λ t. absurd (false≢true (sym (ap (list_all is_identifier) is) ∙ t)),
-      λ c. absurd (no_slash b e ((name_cons Open b bytes).0 c).0));
+    λ t. absurd (false≢true (sym (ap (list_all is_identifier) is) ∙ t)),
+    λ c. absurd (no_slash b e ((name_cons Open b bytes).0 c).0),
+  );
 }
 
 cut_other : (b : ℕ) (bytes : List ℕ) → (b ≡ 47 → ⊥) → cut (b ∷ bytes) ≡ onto_first b (cut bytes) → CutIs bytes → CutIs (b ∷ bytes)
@@ -149,9 +150,9 @@ cut_is : (bytes : List ℕ) → CutIs bytes
 cut_is [] = cut_none
 cut_is (b ∷ bytes) = by (b == 47) refl (cut_is bytes)
   where
-  by : (t : Bool) → b == 47 ≡ t → CutIs bytes → CutIs (b ∷ bytes)
-  by true e more = cut_slash b bytes (eqb-true b 47 e) (slice_split-cons_yes (λ b. b == 47) b bytes e) more
-  by false e more = cut_other b bytes (λ q. false≢true (sym e ∙ eq-eqb b 47 q)) (slice_split-cons_no (λ b. b == 47) b bytes e) more
+    by : (t : Bool) → b == 47 ≡ t → CutIs bytes → CutIs (b ∷ bytes)
+    by true e more = cut_slash b bytes (eqb-true b 47 e) (slice_split-cons_yes (λ b. b == 47) b bytes e) more
+    by false e more = cut_other b bytes (λ q. false≢true (sym e ∙ eq-eqb b 47 q)) (slice_split-cons_no (λ b. b == 47) b bytes e) more
 
 pub binary_name_is : (name : List ℕ) → (is_binary_name name ≡ true) ↔ BinaryName name
 binary_name_is name = (cut_is name).all_is

@@ -133,8 +133,8 @@ params_back w (inr c) =
       is = (and_true (is_param one.item) (list_all is_param more.item)).0 (one.is, more.is);
       whole = c.whole
           ∙ ap (λ (v : List ℕ). v ++ c.rest) (front.whole
-              ∙ ap (λ (v : List ℕ). v ++ front.rest) (front.first.whole ∙ ap (λ (v : List ℕ). v ++ front.first.rest) front.first.first ∙ ap (λ (v : List ℕ). 60 ∷ v) one.whole)
-              ∙ ap (λ (v : List ℕ). 60 ∷ (param_text one.item ++ v)) more.whole)
+          ∙ ap (λ (v : List ℕ). v ++ front.rest) (front.first.whole ∙ ap (λ (v : List ℕ). v ++ front.first.rest) front.first.first ∙ ap (λ (v : List ℕ). 60 ∷ v) one.whole)
+          ∙ ap (λ (v : List ℕ). 60 ∷ (param_text one.item ++ v)) more.whole)
           ∙ ap (λ (v : List ℕ). 60 ∷ ((param_text one.item ++ flat_map param_text more.item) ++ v)) c.second;
     }
 
@@ -179,12 +179,14 @@ class_back : (w : List ℕ) → Rows (parameters ∷ body_row ClassPlace) w → 
 class_back w c =
     let params = params_back c.front c.first in
     let super = c.second.first in
-    let interfaces = (class_types c.second.rest).1 ((row_one (Many (Kind ClassType)) c.second.rest).0 c.second.second) in
-    (OfClass params.item super.item interfaces.item, record {
-      form = of_three (list_all is_param params.item) (is_type super.item ClassType) (are_types ClassType interfaces.item) params.is super.is interfaces.is;
-      whole = c.whole ∙ ap (λ (v : List ℕ). v ++ c.rest) params.whole
-          ∙ ap (λ (v : List ℕ). params_text params.item ++ v) (c.second.whole ∙ ap (λ (v : List ℕ). v ++ c.second.rest) super.whole ∙ ap (λ (v : List ℕ). type_text super.item ++ v) interfaces.whole);
-    })
+    let interfaces = (class_types c.second.rest).1 ((row_one (Many (Kind ClassType)) c.second.rest).0 c.second.second) in (
+      OfClass params.item super.item interfaces.item,
+      record {
+        form = of_three (list_all is_param params.item) (is_type super.item ClassType) (are_types ClassType interfaces.item) params.is super.is interfaces.is;
+        whole = c.whole ∙ ap (λ (v : List ℕ). v ++ c.rest) params.whole
+            ∙ ap (λ (v : List ℕ). params_text params.item ++ v) (c.second.whole ∙ ap (λ (v : List ℕ). v ++ c.second.rest) super.whole ∙ ap (λ (v : List ℕ). type_text super.item ++ v) interfaces.whole);
+      },
+    )
 
 method_to : (w : List ℕ) (sig : JSig) → is_signature AtMethod sig ≡ true → w ≡ signature_text sig → Rows (parameters ∷ body_row MethodPlace) w
 method_to w (OfClass params super interfaces) is e = absurd (false≢true is)
@@ -231,15 +233,17 @@ method_back w c =
     let formals = (any_types opened.second.front).1 opened.second.first in
     let closed = opened.second.second in
     let ret = closed.second.first in
-    let thrown = (throws_is closed.second.rest).1 ((row_one throws closed.second.rest).0 closed.second.second) in
-    (OfMethod params.item formals.item ret.item thrown.item, record {
-      form = of_four (list_all is_param params.item) (are_types AnyType formals.item) (is_type ret.item AnyResult) (are_types Thrown thrown.item) params.is formals.is ret.is thrown.is;
-      whole = c.whole ∙ ap (λ (v : List ℕ). v ++ c.rest) params.whole
-          ∙ ap (λ (v : List ℕ). params_text params.item ++ v) (opened.whole ∙ ap (λ (v : List ℕ). v ++ opened.rest) opened.first
-          ∙ ap (λ (v : List ℕ). 40 ∷ v) (opened.second.whole ∙ ap (λ (v : List ℕ). v ++ opened.second.rest) formals.whole
-          ∙ ap (λ (v : List ℕ). flat_map type_text formals.item ++ v) (closed.whole ∙ ap (λ (v : List ℕ). v ++ closed.rest) closed.first
-          ∙ ap (λ (v : List ℕ). 41 ∷ v) (closed.second.whole ∙ ap (λ (v : List ℕ). v ++ closed.second.rest) ret.whole ∙ ap (λ (v : List ℕ). type_text ret.item ++ v) thrown.whole))));
-    })
+    let thrown = (throws_is closed.second.rest).1 ((row_one throws closed.second.rest).0 closed.second.second) in (
+      OfMethod params.item formals.item ret.item thrown.item,
+      record {
+        form = of_four (list_all is_param params.item) (are_types AnyType formals.item) (is_type ret.item AnyResult) (are_types Thrown thrown.item) params.is formals.is ret.is thrown.is;
+        whole = c.whole ∙ ap (λ (v : List ℕ). v ++ c.rest) params.whole
+            ∙ ap (λ (v : List ℕ). params_text params.item ++ v) (opened.whole ∙ ap (λ (v : List ℕ). v ++ opened.rest) opened.first
+            ∙ ap (λ (v : List ℕ). 40 ∷ v) (opened.second.whole ∙ ap (λ (v : List ℕ). v ++ opened.second.rest) formals.whole
+            ∙ ap (λ (v : List ℕ). flat_map type_text formals.item ++ v) (closed.whole ∙ ap (λ (v : List ℕ). v ++ closed.rest) closed.first
+            ∙ ap (λ (v : List ℕ). 41 ∷ v) (closed.second.whole ∙ ap (λ (v : List ℕ). v ++ closed.second.rest) ret.whole ∙ ap (λ (v : List ℕ). type_text ret.item ++ v) thrown.whole))));
+      },
+    )
 
 field_to : (w : List ℕ) (sig : JSig) → is_signature AtField sig ≡ true → w ≡ signature_text sig → Rows (body_row FieldPlace) w
 field_to w (OfClass params super interfaces) is e = absurd (false≢true is)

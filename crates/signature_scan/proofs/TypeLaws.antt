@@ -35,7 +35,7 @@ alternatives at b w =
     (and_then (any_append (only (b == 84 && allows_variable at) (variable_row ∷ [])) _ w) (either (only_one (b == 84 && allows_variable at) variable_row w)
     (and_then (any_append (only (b == 91 && allows_array at) ((Dims 4294967294 ∷ []) ∷ [])) _ w) (either (only_one (b == 91 && allows_array at) (Dims 4294967294 ∷ []) w)
     (and_then (any_append (only (b == 86 && allows_void at) ([] ∷ [])) (only (is_primitive b && allows_primitive at) ([] ∷ [])) w)
-        (either (only_one (b == 86 && allows_void at) [] w) (only_one (is_primitive b && allows_primitive at) [] w))))))))
+    (either (only_one (b == 86 && allows_void at) [] w) (only_one (is_primitive b && allows_primitive at) [] w))))))))
 
 -- ---- a class, a variable and an array behind their first byte
 
@@ -73,13 +73,16 @@ named_to at b w parts is e =
     let f : b ∷ w ≡ 76 ∷ (parts_text (map part_text parts) ++ codes ";") = e ∙ layers.text_named parts in
     let head : b ≡ 76 = cc in
     let tail : w ≡ parts_text (map part_text parts) ++ codes ";" = cc in
-    inl (eq-eqb b 76 head, (class_row_is w).0 (record {
-      front = parts_text (map part_text parts);
-      rest = codes ";";
-      whole = tail;
-      first = class_to (parts_text (map part_text parts)) parts (sym (layers.form_named parts at) ∙ is) refl;
-      second = refl;
-    }))
+    inl (
+      eq-eqb b 76 head,
+      (class_row_is w).0 (record {
+        front = parts_text (map part_text parts);
+        rest = codes ";";
+        whole = tail;
+        first = class_to (parts_text (map part_text parts)) parts (sym (layers.form_named parts at) ∙ is) refl;
+        second = refl;
+      }),
+    )
 
 var_to : (at : Production) (b : ℕ) (w : List ℕ) (name : List ℕ) → is_type (type.Var name) at ≡ true → b ∷ w ≡ type_text (type.Var name) → Alternatives at b w
 var_to at b w name is e =
@@ -87,9 +90,16 @@ var_to at b w name is e =
     let head : b ≡ 84 = cc in
     let tail : w ≡ name ++ codes ";" = cc in
     let p = (and_true (allows_variable at) (is_identifier name)).1 (sym (layers.form_var name at) ∙ is) in
-    inr (inl ((and_true (b == 84) (allows_variable at)).0 (eq-eqb b 84 head, p.0), (variable_row_is w).0 (record {
-      front = name; rest = codes ";"; whole = tail; first = (identifier_is name).0 p.1; second = refl;
-    })))
+    inr (inl (
+      (and_true (b == 84) (allows_variable at)).0 (eq-eqb b 84 head, p.0),
+      (variable_row_is w).0 (record {
+        front = name;
+        rest = codes ";";
+        whole = tail;
+        first = (identifier_is name).0 p.1;
+        second = refl;
+      }),
+    ))
 
 all_four : (a b c d : Bool) → a && b && c && d ≡ true → (a ≡ true) × (b ≡ true) × (c ≡ true) × (d ≡ true)
 all_four true true true d e = (refl, refl, refl, e)
@@ -105,14 +115,21 @@ array_to at b w element dims is e =
     let p = all_four (allows_array at) (nat_le 1 dims) (nat_lt dims (2 ^ 32)) (is_type element Element) (sym (layers.form_array element dims at) ∙ is) in
     by dims (leb-true 1 dims p.1) (ltb-true dims (2 ^ 32) p.2) (e ∙ layers.text_array element dims) p.0 p.3
   where
-  by : (dims : ℕ) → 1 ≤ dims → dims < 2 ^ 32 → b ∷ w ≡ replicate dims 91 ++ type_text element → allows_array at ≡ true → is_type element Element ≡ true → Alternatives at b w
-  by zero some most f allowed is = absurd (omega arith)
-  by (suc more) some most f allowed is =
-      let head : b ≡ 91 = cc in
-      let tail : w ≡ replicate more 91 ++ type_text element = cc in
-      inr (inr (inl ((and_true (b == 91) (allows_array at)).0 (eq-eqb b 91 head, allowed), (row_one (Dims 4294967294) w).1 (record {
-        dims = more; type = element; within = omega arith; is = is; text = tail;
-      }))))
+    by : (dims : ℕ) → 1 ≤ dims → dims < 2 ^ 32 → b ∷ w ≡ replicate dims 91 ++ type_text element → allows_array at ≡ true → is_type element Element ≡ true → Alternatives at b w
+    by zero some most f allowed is = absurd (omega arith)
+    by (suc more) some most f allowed is =
+        let head : b ≡ 91 = cc in
+        let tail : w ≡ replicate more 91 ++ type_text element = cc in
+        inr (inr (inl (
+          (and_true (b == 91) (allows_array at)).0 (eq-eqb b 91 head, allowed),
+          (row_one (Dims 4294967294) w).1 (record {
+            dims = more;
+            type = element;
+            within = omega arith;
+            is = is;
+            text = tail;
+          }),
+        )))
 
 type_to : (at : Production) (b : ℕ) (w : List ℕ) (t : JType) (layer : JType-F JArg JType JPart) → roll-JType layer ≡ t → is_type t at ≡ true → b ∷ w ≡ type_text t → Alternatives at b w
 type_to at b w t JType-F.Void r is e = let v = sym r ∙ type.rolls-Void in void_to at b w (ap (λ t. is_type t at) (sym v) ∙ is) (e ∙ ap type_text v)
@@ -173,13 +190,13 @@ kind_goes at b w = and_then (λ t. type_to at b w t.item (out-JType t.item) (rol
 elements : (most b : ℕ) (w : List ℕ) → IsElement most (b ∷ w) → (((b == 91 ≡ true) × AnyRow (one_fewer most) w) ⊎ IsKind Element (b ∷ w))
 elements most b w x = by most x.dims x.within x.text
   where
-  by : (most dims : ℕ) → dims ≤ most → b ∷ w ≡ replicate dims 91 ++ type_text x.type → (((b == 91 ≡ true) × AnyRow (one_fewer most) w) ⊎ IsKind Element (b ∷ w))
-  by most zero h e = inr (record { item = x.type; is = x.is; whole = e })
-  by zero (suc dims) h e = absurd (omega arith)
-  by (suc most) (suc dims) h e =
-      let head : b ≡ 91 = cc in
-      let tail : w ≡ replicate dims 91 ++ type_text x.type = cc in
-      inl (eq-eqb b 91 head, (one_row (Dims most ∷ []) w).1 ((row_one (Dims most) w).1 (record { dims = dims; type = x.type; within = omega arith; is = x.is; text = tail })))
+    by : (most dims : ℕ) → dims ≤ most → b ∷ w ≡ replicate dims 91 ++ type_text x.type → (((b == 91 ≡ true) × AnyRow (one_fewer most) w) ⊎ IsKind Element (b ∷ w))
+    by most zero h e = inr (record { item = x.type; is = x.is; whole = e })
+    by zero (suc dims) h e = absurd (omega arith)
+    by (suc most) (suc dims) h e =
+        let head : b ≡ 91 = cc in
+        let tail : w ≡ replicate dims 91 ++ type_text x.type = cc in
+        inl (eq-eqb b 91 head, (one_row (Dims most ∷ []) w).1 ((row_one (Dims most) w).1 (record { dims = dims; type = x.type; within = omega arith; is = x.is; text = tail })))
 
 one_more : (most b : ℕ) (w : List ℕ) → (b == 91 ≡ true) × AnyRow (one_fewer most) w → IsElement most (b ∷ w)
 one_more zero b w p = absurd p.1
@@ -212,9 +229,9 @@ empty_text t (JType-F.Array element dims) r at is e =
     let p = all_four (allows_array at) (nat_le 1 dims) (nat_lt dims (2 ^ 32)) (is_type element Element) (sym (layers.form_array element dims at) ∙ ap (λ t. is_type t at) (sym v) ∙ is) in
     by dims (leb-true 1 dims p.1) (sym (layers.text_array element dims) ∙ ap type_text (sym v) ∙ e)
   where
-  by : (dims : ℕ) → 1 ≤ dims → replicate dims 91 ++ type_text element ≡ [] → ⊥
-  by zero some f = absurd (omega arith)
-  by (suc more) some f = absurd (cc)
+    by : (dims : ℕ) → 1 ≤ dims → replicate dims 91 ++ type_text element ≡ [] → ⊥
+    by zero some f = absurd (omega arith)
+    by (suc more) some f = absurd (cc)
 
 kind_ends : (at : Production) → EndIs (Kind at)
 kind_ends at = (λ t. absurd (empty_text t.item (out-JType t.item) (roll-out-JType t.item) at t.is (sym t.whole)), λ e. absurd (false≢true e))
@@ -222,9 +239,9 @@ kind_ends at = (λ t. absurd (empty_text t.item (out-JType t.item) (roll-out-JTy
 dims_empty : (most : ℕ) → IsElement most [] → ⊥
 dims_empty most x = by x.dims x.text
   where
-  by : (dims : ℕ) → [] ≡ replicate dims 91 ++ type_text x.type → ⊥
-  by zero e = empty_text x.type (out-JType x.type) (roll-out-JType x.type) Element x.is (sym e)
-  by (suc dims) e = absurd (cc)
+    by : (dims : ℕ) → [] ≡ replicate dims 91 ++ type_text x.type → ⊥
+    by zero e = empty_text x.type (out-JType x.type) (roll-out-JType x.type) Element x.is (sym e)
+    by (suc dims) e = absurd (cc)
 
 -- ---- each expression
 

@@ -18,23 +18,31 @@ use Rattle.signature_scan.proofs.Expressions.{Expr, Byte, NameByte, Many, Maybe,
 use Rattle.signature_scan.proofs.Names.{Identifier, identifier_is, BinaryName, binary_name_is}
 use Rattle.signature_scan.proofs.Items.{texts_as, list_is, behind_byte, all_map, flat_map-map, concat-map}
 
-
 -- ---- type arguments
 
 arg_to : (w : List ℕ) (a : JArg) (layer : JArg-F JArg JType JPart) → roll-JArg layer ≡ a → is_arg a ≡ true → w ≡ arg_text a → Words argument w
 arg_to w a (JArg-F.Exact ty) r is e = let v = sym r ∙ arg.rolls-Exact ty in
     inr (record {
-      front = []; rest = w; whole = refl; first = inl refl;
+      front = [];
+      rest = w;
+      whole = refl;
+      first = inl refl;
       second = record { item = ty; is = sym (layers.form_exact ty) ∙ ap is_arg (sym v) ∙ is; whole = e ∙ ap arg_text v ∙ layers.text_exact ty };
     })
 arg_to w a (JArg-F.Extends ty) r is e = let v = sym r ∙ arg.rolls-Extends ty in
     inr (record {
-      front = 43 ∷ []; rest = type_text ty; whole = e ∙ ap arg_text v ∙ layers.text_extends ty; first = inr (inl refl);
+      front = 43 ∷ [];
+      rest = type_text ty;
+      whole = e ∙ ap arg_text v ∙ layers.text_extends ty;
+      first = inr (inl refl);
       second = record { item = ty; is = sym (layers.form_extends ty) ∙ ap is_arg (sym v) ∙ is; whole = refl };
     })
 arg_to w a (JArg-F.Super ty) r is e = let v = sym r ∙ arg.rolls-Super ty in
     inr (record {
-      front = 45 ∷ []; rest = type_text ty; whole = e ∙ ap arg_text v ∙ layers.text_super ty; first = inr (inr refl);
+      front = 45 ∷ [];
+      rest = type_text ty;
+      whole = e ∙ ap arg_text v ∙ layers.text_super ty;
+      first = inr (inr refl);
       second = record { item = ty; is = sym (layers.form_super ty) ∙ ap is_arg (sym v) ∙ is; whole = refl };
     })
 arg_to w a JArg-F.Any r is e = let v = sym r ∙ arg.rolls-Any in inl (e ∙ ap arg_text v ∙ layers.text_any)
@@ -102,8 +110,8 @@ args_back w (inr c) =
       is = (and_true (is_arg one.item) (are_args more.item)).0 (one.is, more.is);
       whole = c.whole
           ∙ ap (λ (v : List ℕ). v ++ c.rest) (front.whole
-              ∙ ap (λ (v : List ℕ). v ++ front.rest) (front.first.whole ∙ ap (λ (v : List ℕ). v ++ front.first.rest) front.first.first ∙ ap (λ (v : List ℕ). 60 ∷ v) one.whole)
-              ∙ ap (λ (v : List ℕ). 60 ∷ (arg_text one.item ++ v)) more.whole)
+          ∙ ap (λ (v : List ℕ). v ++ front.rest) (front.first.whole ∙ ap (λ (v : List ℕ). v ++ front.first.rest) front.first.first ∙ ap (λ (v : List ℕ). 60 ∷ v) one.whole)
+          ∙ ap (λ (v : List ℕ). 60 ∷ (arg_text one.item ++ v)) more.whole)
           ∙ ap (λ (v : List ℕ). 60 ∷ ((arg_text one.item ++ concat (map arg_text more.item)) ++ v)) c.second;
     }
 
@@ -152,9 +160,9 @@ inner_text parts = flat_map (λ part. codes "." ++ part) (map part_text parts)
 inners_is : (w : List ℕ) → IsTextOf are_inner inner_text w ↔ Words inners w
 inners_is w =
     and_then (texts_as are_inner (list_all (λ part. is_part part is_identifier)) inner_text (flat_map (λ part. 46 ∷ part_text part))
-        (all_map (λ part. part is_identifier) is_part) (flat_map-map (λ part. codes "." ++ part) part_text) w)
+    (all_map (λ part. part is_identifier) is_part) (flat_map-map (λ part. codes "." ++ part) part_text) w)
     (and_then (list_is (λ part. is_part part is_identifier) (λ part. 46 ∷ part_text part) (Words inner)
-        (behind_byte (λ part. is_part part is_identifier) part_text (Cat Identifier (Words arguments)) (part_is is_identifier Identifier identifier_is) 46) w)
+    (behind_byte (λ part. is_part part is_identifier) part_text (Cat Identifier (Words arguments)) (part_is is_identifier Identifier identifier_is) 46) w)
     (stars inner_as w))
 
 -- a class without its L

@@ -1,8 +1,8 @@
 -- The machine's verdict on a text is the right one.
-use Rattle.std.proofs.Common.{◌≡◌, ◌↔◌, ◌⊎◌, inl, inr, refl, sym, ap, ◌∙◌, subst, ℕ, zero, suc, ◌+◌, ◌<◌, ◌≤◌, Bool, true, false, List, [], ◌∷◌, ◌++◌, length, take, get_or, append_assoc, length-append, Option, Some, None, arith}
+use Rattle.std.proofs.Common.{◌≡◌, ◌↔◌, ◌⊎◌, inl, inr, refl, sym, ap, ◌∙◌, subst, ℕ, zero, suc, ◌+◌, ◌<◌, ◌≤◌, Bool, true, false, List, [], ◌∷◌, ◌++◌, length, take, get_or, append_assoc, length-append, drop, drop-cons, add-one, Option, Some, None, arith}
 use Rattle.std.specs.List.{position_or_len}
 use Rattle.std.proofs.lemmas.Bool.{cases_lt, false≢true}
-use Rattle.std.proofs.lemmas.List.{take_at, append-nil}
+use Rattle.std.proofs.lemmas.List.{take_at, append-nil, drop_all}
 use Rattle.class_desc.specs.declared.types.JSig.{JSig}
 use Rattle.class_desc.specs.Types.{signature_text}
 use Rattle.class_desc.specs.Signature.{Place, SignatureSpells}
@@ -101,18 +101,23 @@ module _ (place : SigPlace) (front : List ℕ) (s : State) (deep : Option ℕ) (
       levels_by_text (place_of place) sig spelled.form ∙ ap text_levels (sym spelled.whole) ∙ r.leveled [] ∙ ap (λ (v : List ℕ). r.levels ++ v) (levels_end s) ∙ append-nil r.levels
 
   whole_end : (o : Option ℕ) → o ≡ first_deep 0 r.levels → Spelled (place_of place) (front ++ []) → Scanned (place_of place) (front ++ []) (whole_verdict o)
-  whole_end None found spelled = (spelled.0, record {
-    spelled = spelled.1;
-    nested = subst (λ (ls : List ℕ). greatest ls ≤ 64) (sym (levels_are spelled.0 spelled.1)) (none_deep 0 r.levels (sym found));
-  })
+  whole_end None found spelled = (
+    spelled.0,
+    record {
+      spelled = spelled.1;
+      nested = subst (λ (ls : List ℕ). greatest ls ≤ 64) (sym (levels_are spelled.0 spelled.1)) (none_deep 0 r.levels (sym found));
+    },
+  )
   whole_end (Some first) found spelled =
       let d = some_deep 0 r.levels first (sym found) in
-      let opened : first ≡ position_or_len is_deep r.levels = omega (arith, d.place) in
-      (spelled.0, record {
-        spelled = spelled.1;
-        nested = subst (λ (ls : List ℕ). 64 < greatest ls) (sym (levels_are spelled.0 spelled.1)) d.deep;
-        opens = opened ∙ ap (position_or_len is_deep) (sym (levels_are spelled.0 spelled.1));
-      })
+      let opened : first ≡ position_or_len is_deep r.levels = omega (arith, d.place) in (
+        spelled.0,
+        record {
+          spelled = spelled.1;
+          nested = subst (λ (ls : List ℕ). 64 < greatest ls) (sym (levels_are spelled.0 spelled.1)) d.deep;
+          opens = opened ∙ ap (position_or_len is_deep) (sym (levels_are spelled.0 spelled.1));
+        },
+      )
 
   text_end : (whole : Bool) → is_whole s ≡ whole → Scanned (place_of place) (front ++ []) (end_verdict whole deep at)
   text_end true e = whole_end deep r.found ((r.follows []).0 ((whole_is s).1 e))
@@ -146,12 +151,43 @@ scanned_from place [] front s deep at bytes here r = text_end place front s deep
 scanned_from place (b ∷ rest) front s deep at bytes here r =
     by (next s b) refl (λ t e. scanned_from place rest (front ++ (b ∷ [])) t (deeper deep t at) (at + 1) (λ i. bytes (suc i)) (ap (λ k. k + 1) here ∙ sym (length-append front (b ∷ []))) (reached_next place front s deep b at t (bytes zero) e here r))
   where
-  by : (o : Option State) → next s b ≡ o
-      → ((t : State) → next s b ≡ Some t → Scanned (place_of place) ((front ++ (b ∷ [])) ++ rest) (run t (deeper deep t at) (at + 1) rest))
-      → Scanned (place_of place) (front ++ (b ∷ rest)) (go_on o (λ t. run t (deeper deep t at) (at + 1) rest) at)
-  by None e more = bad_at place front s deep at here r b rest (bytes zero) e
-  by (Some t) e more = subst (λ (text : List ℕ). Scanned (place_of place) text (run t (deeper deep t at) (at + 1) rest)) (append_assoc front (b ∷ []) rest) (more t e)
+    by : (o : Option State) → next s b ≡ o
+        → ((t : State) → next s b ≡ Some t → Scanned (place_of place) ((front ++ (b ∷ [])) ++ rest) (run t (deeper deep t at) (at + 1) rest))
+        → Scanned (place_of place) (front ++ (b ∷ rest)) (go_on o (λ t. run t (deeper deep t at) (at + 1) rest) at)
+    by None e more = bad_at place front s deep at here r b rest (bytes zero) e
+    by (Some t) e more = subst (λ (text : List ℕ). Scanned (place_of place) text (run t (deeper deep t at) (at + 1) rest)) (append_assoc front (b ∷ []) rest) (more t e)
 
 -- the verdict on a whole text
 pub scanned : (place : SigPlace) (text : List ℕ) → AreBytes text → Scanned (place_of place) text (run (state.Start place) None 0 text)
 scanned place text bytes = scanned_from place text [] (state.Start place) None 0 bytes refl (reached_start place)
+
+-- ---- the loop
+
+opened : (i : ℕ) (text : List ℕ) → i < length text → drop i text ≡ get_or text i 0 ∷ drop (i + 1) text
+opened i text h = rw (add-one, drop-cons text i 0) refl
+
+-- the scan goes on
+pub run_more : (s t : State) (i : ℕ) (deep after : Option ℕ) (text : List ℕ) → i < length text
+    → Some t ≡ next s (get_or text i 0) → after ≡ deeper deep t i
+    → run t after (i + 1) (drop (i + 1) text) ≡ run s deep i (drop i text)
+run_more s t i deep after text h e d =
+    rw (d, opened i text h) (ap (λ (o : Option State). go_on o (λ t. run t (deeper deep t i) (i + 1) (drop (i + 1) text)) i) e)
+
+-- the scan ends before a byte
+pub run_stops : (s : State) (i : ℕ) (deep : Option ℕ) (text : List ℕ) → i < length text
+    → None ≡ next s (get_or text i 0) → verdict.BadText i ≡ run s deep i (drop i text)
+run_stops s i deep text h e =
+    rw (opened i text h) (ap (λ (o : Option State). go_on o (λ t. run t (deeper deep t i) (i + 1) (drop (i + 1) text)) i) e)
+
+-- the scan ends with the text
+pub run_ends : (s : State) (i : ℕ) (deep : Option ℕ) (text : List ℕ) → length text ≤ i → end_verdict (is_whole s) deep i ≡ run s deep i (drop i text)
+run_ends s i deep text h = rw (drop_all i text h) refl
+
+-- a verdict that the rest of the text gives
+pub tells : (place : SigPlace) (text : List ℕ) (v : Verdict) → AreBytes text → v ≡ run (state.Start place) None 0 text → Scanned (place_of place) text v
+tells place text v bytes e = subst (λ (v : Verdict). Scanned (place_of place) text v) (sym e) (scanned place text bytes)
+
+pub tells_end : (place : SigPlace) (text : List ℕ) (v : Verdict) (s : State) (i : ℕ) (deep : Option ℕ) (whole : Bool) → AreBytes text
+    → run s deep i (drop i text) ≡ run (state.Start place) None 0 text → length text ≤ i → is_whole s ≡ whole → v ≡ end_verdict whole deep i → Scanned (place_of place) text v
+tells_end place text v s i deep whole bytes kept h w e =
+    tells place text v bytes (e ∙ ap (λ t. end_verdict t deep i) (sym w) ∙ run_ends s i deep text h ∙ kept)

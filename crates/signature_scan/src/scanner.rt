@@ -1,4 +1,5 @@
-ghost use Rattle.std.specs.Prelude.{◌<◌, ◌^◌, length};
+ghost use Rattle.std.specs.Prelude.{◌≡◌, ◌<◌, ◌^◌, length};
+ghost use Rattle.signature_scan.specs.Machine as machine;
 ghost use Rattle.signature_scan.specs.Scanned.{Scanned, place_of};
 
 use crate::place::SigPlace;
@@ -17,12 +18,12 @@ pub fn scan(text: &[u8], place: SigPlace) -> Verdict
     let mut too_deep = None;
     for (index, byte) in text.iter().enumerate() {
         let at = index as u32;
-        state = match state.next(*byte) {
-            Some(next) => next,
+        match state.next(*byte) {
+            Some(next) => {
+                state = next;
+                too_deep = first_too_deep(too_deep, next, at);
+            }
             None => return Verdict::BadText { at },
-        };
-        if too_deep.is_none() && state.depth() > NESTING_LIMIT {
-            too_deep = Some(at);
         }
     }
     if !state.is_whole() {
@@ -33,5 +34,21 @@ pub fn scan(text: &[u8], place: SigPlace) -> Verdict
     match too_deep {
         None => Verdict::Fine,
         Some(at) => Verdict::TooDeep { at },
+    }
+}
+
+/// Where type arguments were first nested too deep, once the byte at `at` has led to the state.
+fn first_too_deep(known: Option<u32>, state: State, at: u32) -> Option<u32>
+    ensures { result ≡ machine.deeper known state at }
+{
+    match known {
+        Some(first) => Some(first),
+        None => {
+            if state.depth() > NESTING_LIMIT {
+                Some(at)
+            } else {
+                None
+            }
+        }
     }
 }
