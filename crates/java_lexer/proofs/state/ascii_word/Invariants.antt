@@ -1,4 +1,4 @@
-use Rattle.std.proofs.Common.{◌≡◌, ◌≤◌, ◌<◌, ◌-◌, length, drop, Some, None}
+use Rattle.std.proofs.Common.{◌≡◌, ◌≤◌, ◌-◌, length, drop, Some, None}
 use Rattle.java_lexer.specs.declared.kind.Kind.TheVariants as kind
 use Rattle.java_lexer.specs.declared.state.State.TheVariants as state
 use Rattle.java_lexer.specs.Machine.{scan}

@@ -1,5 +1,5 @@
 use Rattle.std.proofs.lemmas.Bool.{OnTrue_from}
-use Rattle.std.proofs.Common.{◌≡◌, ap, ◌∙◌, arith, true, nat_eq}
+use Rattle.std.proofs.Common.{◌≡◌, ap, ◌∙◌, arith, nat_eq}
 use Rattle.java_lexer.specs.declared.state.State.TheVariants as state
 use Rattle.java_lexer.specs.Machine.{next_state}
 use Rattle.java_lexer.proofs.FrontLemmas.{space_step, line_step}
