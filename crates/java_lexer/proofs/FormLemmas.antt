@@ -1,5 +1,5 @@
 -- What each form of the machine stands for: what the grammar leaves behind some text.
-use Rattle.std.proofs.Common.{◌≡◌, ℕ, zero, suc, ◌<◌, Bool, true, false, List, [], ◌∷◌, map, codes, Option, Some, None, refl, arith, inl, inr}
+use Rattle.std.proofs.Common.{◌≡◌, ℕ, zero, suc, ◌<◌, Bool, true, false, List, [], ◌∷◌, ◌++◌, map, codes, Option, Some, None, refl, arith, inl, inr}
 use Rattle.std.proofs.lemmas.Bool.{cases_lt}
 use Rattle.java_token.specs.declared.operator.OpTok.{OpTok}
 use Rattle.java_token.specs.declared.operator.OpTok.TheVariants as op
@@ -10,7 +10,8 @@ use Rattle.java_lexer.specs.declared.number.Number.{Number}
 use Rattle.java_lexer.specs.declared.number.Number.TheVariants as number
 use Rattle.java_lexer.specs.declared.quoted.Quoted.{Quoted}
 use Rattle.java_lexer.specs.declared.quoted.Quoted.TheVariants as quoted
-use Rattle.java_lexer.specs.Grammar.{Production, kind_by, grammar, comment}
+use Rattle.java_lexer.specs.Grammar.{Production, Except, Many, StringTail, BlockTail, the, line_ends, blanks, integers, decimals, hexadecimals, literals, operators, kind_by, grammar, comment}
+use Rattle.java_lexer.specs.declared.kind.Kind.TheVariants as kind
 use Rattle.java_lexer.specs.Machine.{next_form, first_form, form_kind}
 use Rattle.java_lexer.proofs.Derive.{derive}
 
@@ -97,34 +98,45 @@ number_text number.BinaryMark = codes "0b"
 number_text number.Binary = codes "0b0"
 number_text number.BinaryGap = codes "0b0_"
 
--- the same of a quotation
+-- the same of a quotation; those inside a string or a text block are stated below
 abbrev pub quoted_text : Quoted → List ℕ
 quoted_text quoted.Quote = 34 ∷ []
 quoted_text quoted.TwoQuotes = 34 ∷ 34 ∷ []
-quoted_text quoted.Text = 34 ∷ 97 ∷ []
-quoted_text quoted.TextEscape = 34 ∷ 92 ∷ []
 quoted_text quoted.BlockOpening = 34 ∷ 34 ∷ 34 ∷ []
-quoted_text quoted.Block = 34 ∷ 34 ∷ 34 ∷ 10 ∷ []
-quoted_text quoted.BlockQuote = 34 ∷ 34 ∷ 34 ∷ 10 ∷ 34 ∷ []
-quoted_text quoted.BlockTwoQuotes = 34 ∷ 34 ∷ 34 ∷ 10 ∷ 34 ∷ 34 ∷ []
-quoted_text quoted.BlockEscape = 34 ∷ 34 ∷ 34 ∷ 10 ∷ 92 ∷ []
 quoted_text quoted.Apostrophe = 39 ∷ []
 quoted_text quoted.CharacterEscape = 39 ∷ 92 ∷ []
 quoted_text quoted.LowOctal = 39 ∷ 92 ∷ 48 ∷ []
 quoted_text quoted.Octal = 39 ∷ 92 ∷ 52 ∷ []
-quoted_text quoted.Character = 39 ∷ 97 ∷ []
+quoted_text _ = []
 
--- what may follow each form
+-- what is left of a text block
+abbrev pub block_left : ℕ → Bool → List Production
+block_left quotes escaped = (kind.Block, BlockTail quotes escaped ∷ []) ∷ []
+
+abbrev pub numbers : List Production
+numbers = integers ++ (decimals ++ hexadecimals)
+
+-- What may follow each form: what the grammar leaves, or that part of it of which something is left. Where
+-- a form stands behind most symbols, that is written out. The rows below check all of it.
 unfoldable pub stands : Form → List Production
 stands (form.Closed k) = (k, []) ∷ []
-stands form.Return = behind (13 ∷ []) grammar
-stands form.LineComment = behind (codes "//") grammar
+stands form.Return = behind (13 ∷ []) blanks
+stands form.LineComment = (kind.Blank, Many (Except line_ends) ∷ []) ∷ []
 stands (form.Comment true) = behind (codes "/**") comment
 stands (form.Comment false) = behind (codes "/*") comment
-stands (form.Operator operator) = behind (spelling operator) grammar
-stands form.TwoDots = behind (codes "..") grammar
-stands (form.Number n) = behind (number_text n) grammar
-stands (form.Quoted q) = behind (quoted_text q) grammar
+stands (form.Operator op.Dot) = behind (codes ".") grammar
+stands (form.Operator op.Slash) = behind (codes "/") grammar
+stands (form.Operator operator) = behind (spelling operator) operators
+stands form.TwoDots = behind (codes "..") operators
+stands (form.Number n) = behind (number_text n) numbers
+stands (form.Quoted quoted.Text) = (kind.String, StringTail false ∷ the 34 ∷ []) ∷ []
+stands (form.Quoted quoted.TextEscape) = (kind.String, StringTail true ∷ the 34 ∷ []) ∷ []
+stands (form.Quoted quoted.Block) = block_left 0 false
+stands (form.Quoted quoted.BlockQuote) = block_left 1 false
+stands (form.Quoted quoted.BlockTwoQuotes) = block_left 2 false
+stands (form.Quoted quoted.BlockEscape) = block_left 0 true
+stands (form.Quoted quoted.Character) = (kind.Character, the 39 ∷ []) ∷ []
+stands (form.Quoted q) = behind (quoted_text q) literals
 
 abbrev pub stands_if : Option Form → List Production
 stands_if None = []

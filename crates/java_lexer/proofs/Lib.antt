@@ -2,6 +2,7 @@ pub mod Derive
 pub mod FormLemmas
 pub mod States
 pub mod Longest
+pub mod FrontLemmas
 pub mod NumberLemmas
 pub mod EscapeLemmas
 pub mod CutLemmas

@@ -27,7 +27,7 @@ pub fn block_text(alloc: Global, units: &[u16]) -> Result<Text, Memory>
 fn unify(alloc: Global, units: &[u16]) -> Result<Vec<u16>, Memory>
     ensures { IfOk result (λ unified. unified.items ≡ spec.unified_from false units.now) }
 {
-    let mut unified = Vec::new(alloc);
+    let mut unified = Vec::with_capacity(alloc, units.len())?;
     let mut after_return = false;
     for unit in units {
         after_return = push_unified(&mut unified, *unit, after_return)?;
@@ -140,7 +140,7 @@ fn bound_by(bound: usize, line: &[u16]) -> usize
 fn strip(alloc: Global, content: &[u16], width: usize) -> Result<Vec<u16>, Memory>
     ensures { IfOk result (λ stripped. stripped.items ≡ spec.stripped width (spec.lines content.now)) }
 {
-    let mut stripped = Vec::new(alloc);
+    let mut stripped = Vec::with_capacity(alloc, content.len())?;
     let mut at = 0;
     'lines: loop {
         let line = line_at(content, at);

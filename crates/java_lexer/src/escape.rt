@@ -12,7 +12,7 @@ const BACKSLASH: u16 = 0x5C;
 pub fn unescape(alloc: Global, units: &[u16]) -> Result<Vec<u16>, Memory>
     ensures { IfOk result (λ plain. plain.items ≡ spec.unescaped units.now) }
 {
-    let mut plain = Vec::new(alloc);
+    let mut plain = Vec::with_capacity(alloc, units.len())?;
     let mut skipped = 0;
     for (index, unit) in units.iter().enumerate() {
         if skipped > 0 {

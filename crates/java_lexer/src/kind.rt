@@ -1,7 +1,7 @@
 use java_token::OpTok;
 
 /// What a piece of the text is.
-#[derive(Clone, Copy, Debug, PartialEq, Eq)]
+#[derive(Clone, Copy)]
 pub enum Kind {
     /// White space or a comment (JLS 3.6, 3.7).
     Blank,

@@ -12,12 +12,8 @@ mod kind;
 mod lexer;
 mod number;
 mod quoted;
-#[cfg(test)]
-mod rows;
 mod standing;
 mod state;
-#[cfg(test)]
-mod tests;
 mod token;
 
 pub use fault::{LexErr, LexFault, LexKind};

@@ -1,7 +1,7 @@
 use crate::fault::LexErr;
 
 /// How a lexer stands.
-#[derive(Clone, Copy, Debug, PartialEq, Eq)]
+#[derive(Clone, Copy, Debug)]
 pub enum Standing {
     /// It takes bytes.
     Open,

@@ -1,5 +1,5 @@
 //! The longest piece at the front of a text (JLS 3.2).
-ghost use Rattle.std.specs.Prelude.{◌≡◌, ◌≤◌, ◌<◌, IfSome, None, length, min, true};
+ghost use Rattle.std.specs.Prelude.{◌≡◌, ◌≤◌, ◌<◌, IfSome, None, Some, drop, length, min, true};
 ghost use Rattle.std.specs.Bool.{OnTrue};
 ghost use Rattle.std.specs.Char.Utf16.{is_high_surrogate, is_low_surrogate, surrogate_pair_char};
 ghost use Rattle.java_lexer.specs.Machine.{next_state, scan as machine_scan, state_kind};
@@ -118,15 +118,23 @@ fn character(high: u16, low: u16) -> u32
     0x1_0000 + (high as u32).saturating_sub(0xD800) * 0x400 + (low as u32 - 0xDC00)
 }
 
-/// How far the longest piece reaches that the units complete from this state, and its kind.
-fn scan(start: State, units: &[u16]) -> Option<(usize, Kind)>
-    ensures value { result ≡ machine_scan start 0 None units.now }
+/// How far the longest piece reaches that the units from a place on complete from this state, and its kind;
+/// or else the piece before them.
+fn scan(
+    start: State,
+    from: usize,
+    before: Option<(usize, Kind)>,
+    units: &[u16],
+) -> Option<(usize, Kind)>
+    requires from { from ≤ length units.now }
+    requires before { IfSome before (λ found. found.0 ≤ from) }
+    ensures value { result ≡ machine_scan start from before (drop from units.now) }
     ensures within { IfSome result (λ found. found.0 ≤ length units.now) }
 {
     let mut state = start;
-    let mut best = None;
-    for (index, unit) in units.iter().enumerate() {
-        match state.next(*unit) {
+    let mut best = before;
+    for index in from..units.len() {
+        match state.next(units[index]) {
             None => return best,
             Some(next) => {
                 state = next;
@@ -147,10 +155,59 @@ pub fn piece_at(units: &[u16]) -> Option<(usize, Kind)>
     ensures progress { IfSome result (λ found. 0 < found.0) }
 {
     if opens_comment(units) {
-        comment_at(units)
-    } else {
-        scan(State::Start, units)
+        return comment_at(units);
     }
+    if begins_blank(units) {
+        return Some((1, Kind::Blank));
+    }
+    let word = ascii_word(units);
+    if word > 0 {
+        scan(State::Word, word, Some((word, Kind::Word)), units)
+    } else {
+        scan(State::Start, 0, None, units)
+    }
+}
+
+/// Whether a blank or a line feed stands at the front.
+fn begins_blank(units: &[u16]) -> bool
+    ensures piece { OnTrue result (machine_scan State.Start 0 None units.now ≡ Some (1, Kind.Blank)) }
+    ensures room { OnTrue result (0 < length units.now) }
+{
+    !units.is_empty() && is_blank(units[0])
+}
+
+fn is_blank(unit: u16) -> bool
+    ensures { OnTrue result (next_state State.Start unit ≡ Some (State.Other (Form.Closed Kind.Blank))) }
+{
+    unit == b' ' as u16 || unit == b'\n' as u16
+}
+
+/// How many ASCII units the word at the front begins with, if there is one.
+fn ascii_word(units: &[u16]) -> usize
+    ensures value { 0 < result → machine_scan State.Word result (Some (result, Kind.Word)) (drop result units.now)
+        ≡ machine_scan State.Start 0 None units.now }
+    ensures within { result ≤ length units.now }
+{
+    if units.is_empty() || !begins_ascii_word(units[0]) {
+        return 0;
+    }
+    let mut end = 1;
+    while end < units.len() && continues_ascii_word(units[end]) {
+        end += 1;
+    }
+    end
+}
+
+fn begins_ascii_word(unit: u16) -> bool
+    ensures { OnTrue result (next_state State.Start unit ≡ Some State.Word) }
+{
+    unit < 0x80 && begins_identifier(unit as u32)
+}
+
+fn continues_ascii_word(unit: u16) -> bool
+    ensures { OnTrue result (next_state State.Word unit ≡ Some State.Word) }
+{
+    unit < 0x80 && continues_identifier(unit as u32)
 }
 
 /// Whether `/*` stands at the front.
@@ -167,7 +224,12 @@ fn comment_at(units: &[u16]) -> Option<(usize, Kind)>
     ensures value { result ≡ piece_of units.now }
     ensures within { IfSome result (λ found. found.0 ≤ length units.now) }
 {
-    match scan(State::Other(Form::Comment { star: false }), &units[2..]) {
+    match scan(
+        State::Other(Form::Comment { star: false }),
+        0,
+        None,
+        &units[2..],
+    ) {
         Some((length, kind)) => Some((length + 2, kind)),
         None => None,
     }

@@ -13,7 +13,7 @@ const LETTER_U: u16 = 0x75;
 pub fn translate(alloc: Global, raw: &[u16]) -> Result<Vec<u16>, Memory>
     ensures { IfOk result (λ units. units.items ≡ translated raw.now) }
 {
-    let mut units = Vec::new(alloc);
+    let mut units = Vec::with_capacity(alloc, raw.len())?;
     let mut next = Next {
         skipped: 0,
         odd: false,

@@ -9,7 +9,7 @@ use std::alloc::Global;
 pub fn modified_utf8(alloc: Global, units: &[u16]) -> Result<Text, Memory>
     ensures { IfOk result (λ text. text ≡ spec.modified_utf8 units.now) }
 {
-    let mut bytes = Vec::new(alloc);
+    let mut bytes = Vec::with_capacity(alloc, units.len())?;
     for unit in units {
         push_unit(&mut bytes, *unit)?;
     }

@@ -50,7 +50,7 @@ fn longest_utf8(bytes: &[u8]) -> &str
 fn raw(alloc: Global, text: &str) -> Result<Vec<u16>, Memory>
     ensures { IfOk result (λ units. units.items ≡ flat_map encode_utf16 (chars text.now)) }
 {
-    let mut units = Vec::new(alloc);
+    let mut units = Vec::with_capacity(alloc, text.len())?;
     for character in text.chars() {
         push_character(&mut units, character)?;
     }

@@ -341,3 +341,76 @@ pub const MORE: [Row; 26] = [
     ("List<List<A>>", "List :Less List :Less A :ShiftRight"),
     ("x->{}", "x :Arrow :LeftBrace :RightBrace"),
 ];
+
+/// Examples of the standard, and more text blocks.
+pub const EXAMPLES: [Row; 42] = [
+    ("\"\\\\u2122=\\u2122\"", "\"\\x5Cu2122=\\xE2\\x84\\xA2\""),
+    ("\\u005c\\u005a", "!1 NoToken"),
+    ("\"\\u005c\\u005a\"", "!1 NoToken"),
+    ("/* this comment /* // /** ends here: */a", "a"),
+    (
+        "String i3 \u{3b1}\u{3c1}\u{3b5}\u{3c4}\u{3b7} MAX_VALUE isLetterOrDigit",
+        "String i3 \\xCE\\xB1\\xCF\\x81\\xCE\\xB5\\xCF\\x84\\xCE\\xB7 MAX_VALUE isLetterOrDigit",
+    ),
+    ("1class", "1 <Class>"),
+    ("class\u{0}", "class\\xC0\\x80"),
+    (
+        "0 2 0372 0xDada_Cafe 1996 0x00_FF__00_FF",
+        "0 2 x250 x3671771902 1996 x16711935",
+    ),
+    (
+        "0l 0777L 0x100000000L 2_147_483_648L 0xC0B0L",
+        "0L x511L x4294967296L 2147483648L x49328L",
+    ),
+    (
+        "1e1f 2.f .3f 0f 3.14f 6.022137e+23f",
+        "~float ~float ~float ~float ~float ~float",
+    ),
+    (
+        "1e1 2. .3 0.0 3.14 1e-9d 1e137",
+        "~double ~double ~double ~double ~double ~double ~double",
+    ),
+    (
+        "'a' '%' '\\t' '\\\\' '\\'' '\\u03a9' '\\uFFFF' '\\177' '\u{2122}'",
+        "'97 '37 '9 '92 '39 '937 '65535 '127 '8482",
+    ),
+    ("'\\u000a'", "!1 NoToken"),
+    ("\"\\u000d\"", "!1 NoToken"),
+    ("class A {\n  String s = \"x;\n}", "!2 NoToken"),
+    ("@Override", ":At Override"),
+    ("a>>>=b", "a :ShiftRightUnsignedAssign b"),
+    ("A::new", "A :DoubleColon <New>"),
+    ("A... a", "A :Ellipsis a"),
+    ("a..b", "a :Dot :Dot b"),
+    (
+        "\"\"\"\n    Hi,\n     \"Bob\"\n    \"\"\"",
+        "\"Hi,\\x0A \\x22Bob\\x22\\x0A\"",
+    ),
+    ("\"\"\"\n    winter\"\"\"", "\"winter\""),
+    ("\"\"\"\n    winter\n    \"\"\"", "\"winter\\x0A\""),
+    ("\"\"\"\n    \"\"\"", "\"\""),
+    ("\"\"\"\n    \"\n    \"\"\"", "\"\\x22\\x0A\""),
+    ("\"\"\"\n    \\\\\n    \"\"\"", "\"\\x5C\\x0A\""),
+    (
+        "\"\"\"\n    text = \\\"\"\"\n        A text block\n    \\\"\"\";\n    \"\"\"",
+        "\"text = \\x22\\x22\\x22\\x0A    A text block\\x0A\\x22\\x22\\x22;\\x0A\"",
+    ),
+    ("\"\"\"\n   that's all.\\\"\"\"\"", "\"that's all.\\x22\""),
+    ("\"\"\"\na\"\"\"\"", "!2 NoToken"),
+    ("\"\"\"\n\ta\n  b\"\"\"", "\"a\\x0A b\""),
+    ("\"\"\"\n\\ta\n b\"\"\"", "\"\\x09a\\x0A b\""),
+    ("\"\"\"\n\u{1c}a\n\u{b}b\"\"\"", "\"a\\x0Ab\""),
+    ("\"\"\"\n a\u{3000}\n b \t\"\"\"", "\"a\\x0Ab\""),
+    ("\"\"\"\n\n   a\n\"\"\"", "\"\\x0A   a\\x0A\""),
+    ("\"\"\"\n  a\n      \"\"\"", "\"a\\x0A\""),
+    ("\"\"\"\n  a\n\t\n  b\n  \"\"\"", "\"a\\x0A\\x0Ab\\x0A\""),
+    ("\"\"\"\n a\\r\n b\"\"\"", "\"a\\x0D\\x0Ab\""),
+    ("\"\"\"\r\n a\\\r\n b\"\"\"", "\"ab\""),
+    ("\"\"\"\r a\\\r\r b\"\"\"", "\"a\\x0Ab\""),
+    ("\"\"\"\n\\u0020a\n b\"\"\"", "\"a\\x0Ab\""),
+    ("\"\"\"\n a\\40\n  \\40b\"\"\"", "\"a \\x0A  b\""),
+    (
+        "\\u0022\\u0022\\u0022\\u000a a\\u0022\\u0022\\u0022",
+        "\"a\"",
+    ),
+];

@@ -1,7 +1,9 @@
 //! The tokens of many texts, fed whole and byte by byte.
 
-use crate::rows::{BLOCKS_AND_OPERATORS, MORE, NUMBERS, QUOTATIONS, Row, WORDS_AND_SPACES};
-use crate::{LexErr, LexLit, Lexer, Token, TokenKind};
+use crate::rows::{
+    BLOCKS_AND_OPERATORS, EXAMPLES, MORE, NUMBERS, QUOTATIONS, Row, WORDS_AND_SPACES,
+};
+use java_lexer::{LexErr, LexLit, Lexer, Token, TokenKind};
 use std::alloc::{AllocError, Global};
 
 /// What is told of a text that is fed whole, as the rows write it.
@@ -62,7 +64,9 @@ fn push_tokens(
             text.push(' ')?;
         }
         if token.line != *line {
-            text.push_str(format!(in alloc; "@{} ", token.line)?.as_str())?;
+            text.push('@')?;
+            push_number(alloc, text, token.line as u64)?;
+            text.push(' ')?;
             *line = token.line;
         }
         push_kind(alloc, text, &token.kind)?;
@@ -72,7 +76,7 @@ fn push_tokens(
 
 fn push_kind(alloc: Global, text: &mut String, kind: &TokenKind) -> Result<(), AllocError> {
     match kind {
-        TokenKind::Word(word) => push_bytes(alloc, text, word.bytes()),
+        TokenKind::Word(word) => push_bytes(text, word.bytes()),
         TokenKind::Keyword(keyword) => {
             text.push_str(format!(in alloc; "<{:?}>", *keyword)?.as_str())
         }
@@ -88,11 +92,12 @@ fn push_kind(alloc: Global, text: &mut String, kind: &TokenKind) -> Result<(), A
             text.push_str(if *double { "~double" } else { "~float" })
         }
         TokenKind::Lit(LexLit::Char(unit)) => {
-            text.push_str(format!(in alloc; "'{}", *unit)?.as_str())
+            text.push('\'')?;
+            push_number(alloc, text, *unit as u64)
         }
         TokenKind::Lit(LexLit::Str(string)) => {
             text.push('"')?;
-            push_bytes(alloc, text, string.bytes())?;
+            push_bytes(text, string.bytes())?;
             text.push('"')
         }
     }
@@ -109,7 +114,7 @@ fn push_integer(
         text.push('x')?;
     }
     match value {
-        Some(value) => text.push_str(format!(in alloc; "{value}")?.as_str())?,
+        Some(value) => push_number(alloc, text, value)?,
         None => text.push('?')?,
     }
     if long {
@@ -118,12 +123,26 @@ fn push_integer(
     Ok(())
 }
 
-fn push_bytes(alloc: Global, text: &mut String, bytes: &[u8]) -> Result<(), AllocError> {
+fn push_number(alloc: Global, text: &mut String, number: u64) -> Result<(), AllocError> {
+    text.push_str(format!(in alloc; "{number}")?.as_str())
+}
+
+/// The hexadecimal digit of a number below 16.
+fn hexadecimal(digit: u8) -> char {
+    match b"0123456789ABCDEF".get(digit as usize) {
+        Some(letter) => char::from(*letter),
+        None => '?',
+    }
+}
+
+fn push_bytes(text: &mut String, bytes: &[u8]) -> Result<(), AllocError> {
     for byte in bytes {
         if *byte >= 0x20 && *byte < 0x7F && *byte != b'"' && *byte != b'\\' {
             text.push(char::from(*byte))?;
         } else {
-            text.push_str(format!(in alloc; "\\x{:02X}", *byte)?.as_str())?;
+            text.push_str("\\x")?;
+            text.push(hexadecimal(*byte / 16))?;
+            text.push(hexadecimal(*byte % 16))?;
         }
     }
     Ok(())
@@ -163,6 +182,7 @@ fn tells_the_tokens_of_texts(rt: HostRuntime) {
         QUOTATIONS.as_slice(),
         BLOCKS_AND_OPERATORS.as_slice(),
         MORE.as_slice(),
+        EXAMPLES.as_slice(),
     ];
     for rows in tables {
         let wrong = wrong(rt.alloc(), rows).expect(&rt, "memory");
@@ -173,6 +193,7 @@ fn tells_the_tokens_of_texts(rt: HostRuntime) {
 #[test]
 fn finds_bytes_that_are_no_utf8(rt: HostRuntime) {
     let rows = [
+        (b"\xFF".as_slice(), "!1 Utf8"),
         (b"abc\xFF".as_slice(), "!1 Utf8"),
         (b"\"abc\xFF".as_slice(), "!1 NoToken"),
         (b"//x\xFF".as_slice(), "!1 Utf8"),
