@@ -81,7 +81,7 @@ greatest (n ∷ ns) = max n (greatest ns)
 abbrev pub nesting : JSig → ℕ
 nesting sig = greatest (levels sig)
 
--- the place in the text where type arguments are first nested deeper than the limit
+-- the place in the text where type arguments are first nested deeper than the limit, or the text's length where they aren't
 abbrev pub opens_at : ℕ → JSig → ℕ
 opens_at limit sig = position_or_len (λ level. nat_lt limit level) (levels sig)
 

@@ -1,6 +1,6 @@
 -- The token that a piece is.
 use Rattle.std.specs.Prelude.{ℕ, List, Option, Some, None}
-use Rattle.java_text.specs.Modified.{modified_utf8}
+use Rattle.hdr_core.specs.ModifiedUtf8.{modified_utf8}
 use Rattle.java_token.specs.declared.keyword.Kw.{Kw}
 use Rattle.java_token.specs.declared.token.LexLit.TheVariants.{Char, Str}
 use Rattle.java_token.specs.declared.token.TokenKind.{TokenKind}

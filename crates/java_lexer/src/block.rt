@@ -1,6 +1,6 @@
 //! Text blocks (JLS 3.10.6).
 ghost use Rattle.std.specs.Prelude.{◌≡◌, ◌≤◌, ◌+◌, ◌-◌, ◌==◌, ◌∷◌, ◌++◌, ℕ, List, IfOk, length, take, drop, min, false, if◌then◌else◌};
-ghost use Rattle.java_text.specs.Modified.{modified_utf8 as modified};
+ghost use Rattle.hdr_core.specs.ModifiedUtf8.{modified_utf8 as modified};
 ghost use Rattle.java_lexer.specs.Blocks as spec;
 
 use crate::escape::unescape;

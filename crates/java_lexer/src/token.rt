@@ -1,6 +1,6 @@
 //! The token of a piece.
 ghost use Rattle.std.specs.Prelude.{◌≡◌, IfOk};
-ghost use Rattle.java_text.specs.Modified.{modified_utf8 as modified};
+ghost use Rattle.hdr_core.specs.ModifiedUtf8.{modified_utf8 as modified};
 ghost use Rattle.java_lexer.specs.Escapes.{string_units};
 ghost use Rattle.java_lexer.specs.Tokens.{token_of, word_of};
 

@@ -1,6 +1,6 @@
 //! Modified UTF-8.
 ghost use Rattle.std.specs.Prelude.{◌≡◌, ◌++◌, IfOk, OnOk};
-ghost use Rattle.java_text.specs.Modified as spec;
+ghost use Rattle.hdr_core.specs.ModifiedUtf8 as spec;
 
 use hdr_core::{Memory, Text};
 use std::alloc::Global;
