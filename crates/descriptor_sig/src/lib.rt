@@ -1,6 +1,10 @@
 //! Descriptors and signatures (JVMS 4.3, 4.7.9.1), from texts to trees and back.
 #![tactic(auto)]
 
+mod descriptor;
+mod descriptor_reader;
 mod error;
+mod stop;
 
+pub use descriptor::read_descriptor;
 pub use error::SigErr;
