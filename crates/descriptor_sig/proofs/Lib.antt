@@ -1,1 +1,4 @@
 pub mod ClassNames
+pub mod Descriptors
+pub mod Fields
+pub mod Stops
