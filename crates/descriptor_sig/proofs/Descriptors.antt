@@ -130,14 +130,18 @@ stuck_formals formals text inner left f n s =
     record {
       front = texts formals ++ s.front;
       whole = f.whole ∙ ap (λ (x : List ℕ). texts formals ++ x) s.whole ∙ sym (append_assoc (texts formals) s.front left);
-      begun = (formals ++ item ∷ [], s.begun.1 ++ codes ")", record {
-        form = list_all-append is_field_type formals (item ∷ []) ∙ and_from (list_all is_field_type formals) (is_field_type item && true) f.form (and_from (is_field_type item) true s.begun.2.form refl);
-        whole = begun_text;
-      });
+      begun = (
+        formals ++ item ∷ [],
+        s.begun.1 ++ codes ")",
+        record {
+          form = list_all-append is_field_type formals (item ∷ []) ∙ and_from (list_all is_field_type formals) (is_field_type item && true) f.form (and_from (is_field_type item) true s.begun.2.form refl);
+          whole = begun_text;
+        },
+      );
       refused = λ others spelled more later sp e. formals_refused formals others more (s.front ++ as_left left later) f.form sp.form
-        (begins_as 41 s.front left later (subst (BeginsOtherwise 41) s.whole n))
-        (λ t rest h g. s.refused t (type_text t) rest later (record { form = h; whole = refl }) g)
-        (sym (append_assoc (texts others) (codes ")") more) ∙ ap (λ (x : List ℕ). x ++ more) (sym sp.whole) ∙ e ∙ append_assoc (texts formals) s.front (as_left left later));
+          (begins_as 41 s.front left later (subst (BeginsOtherwise 41) s.whole n))
+          (λ t rest h g. s.refused t (type_text t) rest later (record { form = h; whole = refl }) g)
+          (sym (append_assoc (texts others) (codes ")") more) ∙ ap (λ (x : List ℕ). x ++ more) (sym sp.whole) ∙ e ∙ append_assoc (texts formals) s.front (as_left left later));
     }
   where
     begun_text : (texts formals ++ s.front) ++ (s.begun.1 ++ codes ")") ≡ texts (formals ++ s.begun.0 ∷ []) ++ codes ")"
@@ -211,9 +215,9 @@ stuck_method_formals text left s = record {
   whole = s.whole;
   begun = (method_of s.begun.0 type.Void, s.begun.1 ++ codes "V", subst (MethodSpells (method_of s.begun.0 type.Void)) (append_assoc s.front s.begun.1 (codes "V")) (method_spelled s.begun.0 type.Void (s.front ++ s.begun.1) (codes "V") s.begun.2 (record { form = ap return_layer type.outs-Void; whole = sym text_void })));
   refused = λ sig spelled more later sp e.
-    let v = behind_paren sig spelled sp in
-    let w = tail_is 40 spelled ((texts v.formals ++ codes ")") ++ type_text v.ret) v.whole in
-    s.refused v.formals (texts v.formals ++ codes ")") (type_text v.ret ++ more) later (record { form = v.formals_form; whole = refl })
+      let v = behind_paren sig spelled sp in
+      let w = tail_is 40 spelled ((texts v.formals ++ codes ")") ++ type_text v.ret) v.whole in
+      s.refused v.formals (texts v.formals ++ codes ")") (type_text v.ret ++ more) later (record { form = v.formals_form; whole = refl })
       (sym (append_assoc (texts v.formals ++ codes ")") (type_text v.ret) more) ∙ ap (λ (x : List ℕ). x ++ more) (sym w) ∙ e);
 }
 
@@ -223,13 +227,13 @@ stuck_method_return formals text inner left f s = record {
   whole = f.whole ∙ ap (λ (x : List ℕ). f.front ++ x) s.whole ∙ sym (append_assoc f.front s.front left);
   begun = (method_of formals s.begun.0, s.begun.1, subst (MethodSpells (method_of formals s.begun.0)) (sym (append_assoc f.front s.front s.begun.1)) (method_spelled formals s.begun.0 f.front (s.front ++ s.begun.1) f.spells s.begun.2));
   refused = λ sig spelled more later sp e.
-    let v = behind_paren sig spelled sp in
-    let w = tail_is 40 spelled ((texts v.formals ++ codes ")") ++ type_text v.ret) v.whole in
-    let tail = s.front ++ as_left left later in
-    let a = formals_apart v.formals formals (type_text v.ret ++ more) tail v.formals_form f.spells.form
+      let v = behind_paren sig spelled sp in
+      let w = tail_is 40 spelled ((texts v.formals ++ codes ")") ++ type_text v.ret) v.whole in
+      let tail = s.front ++ as_left left later in
+      let a = formals_apart v.formals formals (type_text v.ret ++ more) tail v.formals_form f.spells.form
       (sym (append_assoc (texts v.formals) (codes ")") (type_text v.ret ++ more)) ∙ sym (append_assoc (texts v.formals ++ codes ")") (type_text v.ret) more) ∙ ap (λ (x : List ℕ). x ++ more) (sym w) ∙ e
-        ∙ append_assoc f.front s.front (as_left left later) ∙ ap (λ (x : List ℕ). x ++ tail) f.spells.whole ∙ append_assoc (texts formals) (codes ")") tail) in
-    s.refused v.ret (type_text v.ret) more later (record { form = v.ret_form; whole = refl }) a.1;
+      ∙ append_assoc f.front s.front (as_left left later) ∙ ap (λ (x : List ℕ). x ++ tail) f.spells.whole ∙ append_assoc (texts formals) (codes ")") tail) in
+      s.refused v.ret (type_text v.ret) more later (record { form = v.ret_form; whole = refl }) a.1;
 }
 
 -- ---- a descriptor
@@ -275,7 +279,7 @@ descriptors_apart s u p q x y hs hu e = by (descriptor_cases s p hs) (descriptor
         let wf = texts w.formals ++ codes ")" in
         let t = tail_is 40 ((vf ++ type_text v.ret) ++ x) ((wf ++ type_text w.ret) ++ y) (ap (λ (z : List ℕ). z ++ x) (sym v.whole) ∙ e ∙ ap (λ (z : List ℕ). z ++ y) w.whole) in
         let a = formals_apart v.formals w.formals (type_text v.ret ++ x) (type_text w.ret ++ y) v.formals_form w.formals_form
-          (sym (append_assoc (texts v.formals) (codes ")") (type_text v.ret ++ x)) ∙ sym (append_assoc vf (type_text v.ret) x) ∙ t ∙ append_assoc wf (type_text w.ret) y ∙ append_assoc (texts w.formals) (codes ")") (type_text w.ret ++ y)) in
+        (sym (append_assoc (texts v.formals) (codes ")") (type_text v.ret ++ x)) ∙ sym (append_assoc vf (type_text v.ret) x) ∙ t ∙ append_assoc wf (type_text w.ret) y ∙ append_assoc (texts w.formals) (codes ")") (type_text w.ret ++ y)) in
         let b = returns_apart v.ret w.ret x y v.ret_form w.ret_form a.1 in
         (v.is ∙ ap (λ (fs : List JType). method_of fs v.ret) a.0 ∙ ap (method_of w.formals) b.0 ∙ sym w.is, b.1)
     by (inl v) (inr w) = absurd (field_not 40 w.t y refl w.form (((texts v.formals ++ codes ")") ++ type_text v.ret) ++ x) (ap (λ (z : List ℕ). z ++ y) (sym w.whole) ∙ sym e ∙ ap (λ (z : List ℕ). z ++ x) v.whole))
@@ -304,9 +308,9 @@ whole_more sig text left r n = by left refl
       whole = r.whole;
       begun = (sig, [], subst (DescriptorSpells sig) (sym (append-nil r.front)) r.spells);
       refused = λ other later sp.
-        let a = descriptors_apart other sig (r.front ++ as_left left later) r.front [] (as_left left later) sp r.spells (append-nil (r.front ++ as_left left later)) in
-        let f : [] ≡ b ∷ later = a.1 ∙ ap (λ (x : List ℕ). as_left x later) e in
-        absurd cc;
+          let a = descriptors_apart other sig (r.front ++ as_left left later) r.front [] (as_left left later) sp r.spells (append-nil (r.front ++ as_left left later)) in
+          let f : [] ≡ b ∷ later = a.1 ∙ ap (λ (x : List ℕ). as_left x later) e in
+          absurd cc;
     }
 
 pub whole_stuck : (text left : List ℕ) → IsStuck DescriptorSpells text left → IsStuckWhole text left

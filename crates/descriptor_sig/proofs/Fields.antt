@@ -273,13 +273,17 @@ pub stuck_dimensions : (text left : List ℕ) → AreTooMany text left → IsStu
 stuck_dimensions text left a = record {
   front = replicate a.dims 91;
   whole = a.whole;
-  begun = (dimensioned a.dims (type.Prim 73), 73 ∷ [], record {
-    form = dimensioned_form a.dims (type.Prim 73) (omega (arith, a.most)) (ap element_layer (type.outs-Prim 73));
-    whole = ap (λ (t : List ℕ). replicate a.dims 91 ++ t) (sym (text_prim 73)) ∙ sym (dimensioned_text a.dims (type.Prim 73));
-  });
+  begun = (
+    dimensioned a.dims (type.Prim 73),
+    73 ∷ [],
+    record {
+      form = dimensioned_form a.dims (type.Prim 73) (omega (arith, a.most)) (ap element_layer (type.outs-Prim 73));
+      whole = ap (λ (t : List ℕ). replicate a.dims 91 ++ t) (sym (text_prim 73)) ∙ sym (dimensioned_text a.dims (type.Prim 73));
+    },
+  );
   refused = λ item spelled more later sp e.
-    let v = field_view item sp.form in
-    too_deep v.dims a.dims v.element more later (omega (arith, v.few, a.most)) v.form (ap (λ (t : List ℕ). t ++ more) (sym (sp.whole ∙ v.text)) ∙ e ∙ ap (λ (t : List ℕ). replicate a.dims 91 ++ as_left t later) a.next);
+      let v = field_view item sp.form in
+      too_deep v.dims a.dims v.element more later (omega (arith, v.few, a.most)) v.form (ap (λ (t : List ℕ). t ++ more) (sym (sp.whole ∙ v.text)) ∙ e ∙ ap (λ (t : List ℕ). replicate a.dims 91 ++ as_left t later) a.next);
 }
 
 -- an element behind as many brackets as there are
@@ -293,14 +297,18 @@ pub stuck_field : (dims : ℕ) (text inner left : List ℕ) → AreAll text inne
 stuck_field dims text inner left a s = record {
   front = replicate dims 91 ++ s.front;
   whole = a.whole ∙ ap (λ (t : List ℕ). replicate dims 91 ++ t) s.whole ∙ sym (append_assoc (replicate dims 91) s.front left);
-  begun = (dimensioned dims s.begun.0, s.begun.1, record {
-    form = dimensioned_form dims s.begun.0 a.few s.begun.2.form;
-    whole = append_assoc (replicate dims 91) s.front s.begun.1 ∙ ap (λ (t : List ℕ). replicate dims 91 ++ t) s.begun.2.whole ∙ sym (dimensioned_text dims s.begun.0);
-  });
+  begun = (
+    dimensioned dims s.begun.0,
+    s.begun.1,
+    record {
+      form = dimensioned_form dims s.begun.0 a.few s.begun.2.form;
+      whole = append_assoc (replicate dims 91) s.front s.begun.1 ∙ ap (λ (t : List ℕ). replicate dims 91 ++ t) s.begun.2.whole ∙ sym (dimensioned_text dims s.begun.0);
+    },
+  );
   refused = λ item spelled more later sp e.
-    let v = field_view item sp.form in
-    let n : BeginsOtherwise 91 (s.front ++ as_left left later) = begins_as 91 s.front left later (subst (BeginsOtherwise 91) s.whole a.next) in
-    s.refused v.element (type_text v.element) more later (record { form = v.form; whole = refl })
+      let v = field_view item sp.form in
+      let n : BeginsOtherwise 91 (s.front ++ as_left left later) = begins_as 91 s.front left later (subst (BeginsOtherwise 91) s.whole a.next) in
+      s.refused v.element (type_text v.element) more later (record { form = v.form; whole = refl })
       (same_brackets v.dims dims v.element more (s.front ++ as_left left later) v.form n (ap (λ (t : List ℕ). t ++ more) (sym (sp.whole ∙ v.text)) ∙ e ∙ append_assoc (replicate dims 91) s.front (as_left left later)));
 }
 

@@ -1,14 +1,15 @@
 -- What a reader tells where a part was not there.
-use Rattle.std.proofs.Common.{◌≡◌, ap, sym, subst, ◌∙◌, ℕ, ◌<◌, ◌≤◌, List, [], ◌∷◌, length, get_or, Result, Ok, Err, arith}
+use Rattle.std.proofs.Common.{◌≡◌, ap, sym, subst, ◌∙◌, ℕ, ◌<◌, ◌≤◌, ◌-◌, List, [], ◌∷◌, length, get_or, Result, Ok, Err, arith}
 use Rattle.class_desc.specs.declared.types.JType.{JType}
 use Rattle.class_desc.specs.declared.types.JSig.{JSig}
 use Rattle.class_desc.specs.Descriptor.{DescriptorSpells}
 use Rattle.descriptor_sig.specs.declared.stop.Stop.{Stop}
 use Rattle.descriptor_sig.specs.declared.stop.Stop.TheVariants.{Stuck, Memory}
-use Rattle.descriptor_sig.specs.Parts.{Parsed, ParsedWhole, DimensionsRead, IsRead, IsStuck, BeginsOtherwise, FieldSpells, ReturnSpells, MethodSpells}
+use Rattle.descriptor_sig.specs.Parts.{Parsed, ParsedWhole, DimensionsRead, IsRead, IsStuck, IsStuckWhole, BeginsOtherwise, FieldSpells, ReturnSpells, MethodSpells}
+use Rattle.descriptor_sig.specs.Refusals.{IsBadText}
 use Rattle.descriptor_sig.proofs.ClassNames.{tail_of, opened}
 use Rattle.descriptor_sig.proofs.Fields.{stuck_dimensions}
-use Rattle.descriptor_sig.proofs.Descriptors.{read_returned, stuck_returned, read_of_method, stuck_of_method, whole_stuck}
+use Rattle.descriptor_sig.proofs.Descriptors.{read_returned, stuck_returned, read_of_method, stuck_of_method, whole_stuck, bad_text}
 
 -- ---- the first byte, as it is read of a slice
 
@@ -52,3 +53,8 @@ pub of_method : (r : Result JSig Stop) (text inner left : List ℕ) → text ≡
 of_method (Ok sig) text inner left e h = read_of_method sig text inner left e h
 of_method (Err Stuck) text inner left e h = stuck_of_method text inner left e h
 of_method (Err Memory) text inner left e h = tt
+
+pub answered : (text bytes inner left : List ℕ) (count : ℕ) → inner ≡ bytes → bytes ≡ text → count ≡ length left → IsStuckWhole inner left → IsBadText DescriptorSpells text (length bytes - count)
+answered text bytes inner left count e f n s =
+    let same : length bytes ≡ length text = ap length f in
+    bad_text text left (length bytes - count) (subst (λ (t : List ℕ). IsStuckWhole t left) (e ∙ f) s) (omega arith)

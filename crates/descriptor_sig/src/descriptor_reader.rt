@@ -162,7 +162,10 @@ impl<'a> Reader<'a> {
 fn is_primitive(letter: u8) -> bool
     ensures { result ≡ is_primitive_letter letter }
 {
-    matches!(letter, b'B' | b'C' | b'D' | b'F' | b'I' | b'J' | b'S' | b'Z')
+    matches!(
+        letter,
+        b'B' | b'C' | b'D' | b'F' | b'I' | b'J' | b'S' | b'Z'
+    )
 }
 
 /// Whether a part of a class's name has begun behind the byte, from the same in front of it. None where the byte can't stand.

@@ -1,4 +1,4 @@
-use Rattle.std.proofs.Common.{◌∙◌, sym, subst, arith, get_or}
+use Rattle.std.proofs.Common.{◌∙◌, sym, subst, arith, rules, get_or}
 use Rattle.std.proofs.lemmas.Result.{err_from_is_err_and}
 use Rattle.descriptor_sig.specs.Parts.{NameSpells, ElementSpells, IsRead}
 use Rattle.descriptor_sig.proofs.ClassNames.{tail_of, opened}
@@ -11,9 +11,9 @@ pub returns-in_err-name-in-76 : goal.returns-in_err-name-in-76
 returns-in_err-name-in-76 c =
     let text = c.args.self.now.rest.now in
     stopped NameSpells ElementSpells c.in_err-name-in-76.field-0.0 c.from_residual.result (tail_of text) c.class_name.new.self.rest.now text
-      (err_from_is_err_and c.from_residual.result c.from_residual.ensures.1)
-      c.in_err-name-in-76.ensures
-      (stuck_class text (tail_of text) c.class_name.new.self.rest.now (opened_as 76 text (omega arith) (omega arith)))
+    (err_from_is_err_and c.from_residual.result c.from_residual.ensures.1)
+    c.in_err-name-in-76.ensures
+    (stuck_class text (tail_of text) c.class_name.new.self.rest.now (opened_as 76 text (omega arith) (omega arith)))
 
 pub returns-in_ok-class_type-in-76 : goal.returns-in_ok-class_type-in-76
 returns-in_ok-class_type-in-76 c =
@@ -30,6 +30,6 @@ pub returns-in_default : goal.returns-in_default
 returns-in_default c =
     let text = c.args.self.now.rest.now in
     elim c.in_default.branch [
-      | in_default-via-then-self-lt1 w ↦ stuck_at_end text (omega arith)
+      | in_default-via-then-self-lt1 w ↦ stuck_at_end text (search rules)
       | in_default-via-in-len1-up+else-is_primitive w ↦ stuck_at text (λ e. absurd (omega arith)) (sym w.is_primitive.ensures ∙ w.if-is_primitive.false)
     ]

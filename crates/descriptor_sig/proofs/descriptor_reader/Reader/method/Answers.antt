@@ -10,9 +10,9 @@ returns-in_err-formals c =
     let text = c.args.self.now.rest.now in
     let left = c.formals.new.self.rest.now in
     stopped FormalsSpell MethodSpells c.in_err-formals.field-0.0 c.from_residual.result text left text
-      (err_from_is_err_and c.from_residual.result c.from_residual.ensures.1)
-      c.in_err-formals.ensures
-      (stuck_method_formals text left)
+    (err_from_is_err_and c.from_residual.result c.from_residual.ensures.1)
+    c.in_err-formals.ensures
+    (stuck_method_formals text left)
 
 pub returns-in_err-ret : goal.returns-in_err-ret
 returns-in_err-ret c =
@@ -20,9 +20,9 @@ returns-in_err-ret c =
     let inner = c.formals.new.self.rest.now in
     let left = c.return_type.new.self.rest.now in
     stopped ReturnSpells MethodSpells c.in_err-ret.field-0.0 c.from_residual-in_err-ret.result inner left text
-      (err_from_is_err_and c.from_residual-in_err-ret.result c.from_residual-in_err-ret.ensures.1)
-      c.in_err-ret.ensures
-      (stuck_method_return c.in_ok-formals.formals text inner left c.in_ok-formals.ensures)
+    (err_from_is_err_and c.from_residual-in_err-ret.result c.from_residual-in_err-ret.ensures.1)
+    c.in_err-ret.ensures
+    (stuck_method_return c.in_ok-formals.formals text inner left c.in_ok-formals.ensures)
 
 pub returns : goal.returns
 returns c =
