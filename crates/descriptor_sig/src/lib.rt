@@ -3,6 +3,8 @@
 
 mod descriptor;
 mod descriptor_reader;
+#[cfg(test)]
+mod descriptor_tests;
 mod error;
 mod stop;
 
