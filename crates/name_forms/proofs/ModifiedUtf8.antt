@@ -89,19 +89,19 @@ unit_view u fits = by (nat_lt 0 u && nat_lt u 0x80) (nat_lt u 0x800) refl refl
     is_pair (inl h) l =
         let z : u ≤ 0 = ltb-false 0 u h in
         or_left ((eqb (0xC0 + u / 64) 0xC0) && (eqb (0x80 + u % 64) 0x80)) ((nat_le 0xC2 (0xC0 + u / 64) && nat_le (0xC0 + u / 64) 0xDF) && is_next_byte (0x80 + u % 64))
-          (and_from (eqb (0xC0 + u / 64) 0xC0) (eqb (0x80 + u % 64) 0x80) (eq-eqb (0xC0 + u / 64) 0xC0 (omega arith)) (eq-eqb (0x80 + u % 64) 0x80 (omega arith)))
+        (and_from (eqb (0xC0 + u / 64) 0xC0) (eqb (0x80 + u % 64) 0x80) (eq-eqb (0xC0 + u / 64) 0xC0 (omega arith)) (eq-eqb (0x80 + u % 64) 0x80 (omega arith)))
     is_pair (inr h) l =
         let m : 0x80 ≤ u = ltb-false u 0x80 h in
         or_right ((eqb (0xC0 + u / 64) 0xC0) && (eqb (0x80 + u % 64) 0x80)) ((nat_le 0xC2 (0xC0 + u / 64) && nat_le (0xC0 + u / 64) 0xDF) && is_next_byte (0x80 + u % 64))
-          (and_from (nat_le 0xC2 (0xC0 + u / 64) && nat_le (0xC0 + u / 64) 0xDF) (is_next_byte (0x80 + u % 64)) (and_from (nat_le 0xC2 (0xC0 + u / 64)) (nat_le (0xC0 + u / 64) 0xDF) (le-leb 0xC2 (0xC0 + u / 64) (omega arith)) (le-leb (0xC0 + u / 64) 0xDF (omega arith))) (next_from (0x80 + u % 64) (omega arith) (omega arith)))
+        (and_from (nat_le 0xC2 (0xC0 + u / 64) && nat_le (0xC0 + u / 64) 0xDF) (is_next_byte (0x80 + u % 64)) (and_from (nat_le 0xC2 (0xC0 + u / 64)) (nat_le (0xC0 + u / 64) 0xDF) (le-leb 0xC2 (0xC0 + u / 64) (omega arith)) (le-leb (0xC0 + u / 64) 0xDF (omega arith))) (next_from (0x80 + u % 64) (omega arith) (omega arith)))
 
     is_lead : 0x800 ≤ u → (u / 4096 ≡ 0) ⊎ (1 ≤ u / 4096) → ((eqb (0xE0 + u / 4096) 0xE0) && nat_le 0xA0 (0x80 + u / 64 % 64)) || (nat_le 0xE1 (0xE0 + u / 4096) && nat_le (0xE0 + u / 4096) 0xEF) ≡ true
     is_lead l (inl z) =
         or_left ((eqb (0xE0 + u / 4096) 0xE0) && nat_le 0xA0 (0x80 + u / 64 % 64)) (nat_le 0xE1 (0xE0 + u / 4096) && nat_le (0xE0 + u / 4096) 0xEF)
-          (and_from (eqb (0xE0 + u / 4096) 0xE0) (nat_le 0xA0 (0x80 + u / 64 % 64)) (eq-eqb (0xE0 + u / 4096) 0xE0 (omega arith)) (le-leb 0xA0 (0x80 + u / 64 % 64) (omega arith)))
+        (and_from (eqb (0xE0 + u / 4096) 0xE0) (nat_le 0xA0 (0x80 + u / 64 % 64)) (eq-eqb (0xE0 + u / 4096) 0xE0 (omega arith)) (le-leb 0xA0 (0x80 + u / 64 % 64) (omega arith)))
     is_lead l (inr s) =
         or_right ((eqb (0xE0 + u / 4096) 0xE0) && nat_le 0xA0 (0x80 + u / 64 % 64)) (nat_le 0xE1 (0xE0 + u / 4096) && nat_le (0xE0 + u / 4096) 0xEF)
-          (and_from (nat_le 0xE1 (0xE0 + u / 4096)) (nat_le (0xE0 + u / 4096) 0xEF) (le-leb 0xE1 (0xE0 + u / 4096) (omega arith)) (le-leb (0xE0 + u / 4096) 0xEF (omega arith)))
+        (and_from (nat_le 0xE1 (0xE0 + u / 4096)) (nat_le (0xE0 + u / 4096) 0xEF) (le-leb 0xE1 (0xE0 + u / 4096) (omega arith)) (le-leb (0xE0 + u / 4096) 0xEF (omega arith)))
 
     zero_or_more : (n : ℕ) → (n ≡ 0) ⊎ (1 ≤ n)
     zero_or_more zero = inl refl
@@ -118,9 +118,9 @@ unit_view u fits = by (nat_lt 0 u && nat_lt u 0x80) (nat_lt u 0x800) refl refl
         let l : 0x800 ≤ u = ltb-false u 0x800 f in
         let lead = ((eqb (0xE0 + u / 4096) 0xE0) && nat_le 0xA0 (0x80 + u / 64 % 64)) || (nat_le 0xE1 (0xE0 + u / 4096) && nat_le (0xE0 + u / 4096) 0xEF) in
         triple (0xE0 + u / 4096) (0x80 + u / 64 % 64) (0x80 + u % 64)
-          (and_from (lead && is_next_byte (0x80 + u / 64 % 64)) (is_next_byte (0x80 + u % 64)) (and_from lead (is_next_byte (0x80 + u / 64 % 64)) (is_lead l (zero_or_more (u / 4096))) (next_from (0x80 + u / 64 % 64) (omega arith) (omega arith))) (next_from (0x80 + u % 64) (omega arith) (omega arith)))
-          (shape_is u false false e f)
-          (omega arith)
+        (and_from (lead && is_next_byte (0x80 + u / 64 % 64)) (is_next_byte (0x80 + u % 64)) (and_from lead (is_next_byte (0x80 + u / 64 % 64)) (is_lead l (zero_or_more (u / 4096))) (next_from (0x80 + u / 64 % 64) (omega arith) (omega arith))) (next_from (0x80 + u % 64) (omega arith) (omega arith)))
+        (shape_is u false false e f)
+        (omega arith)
 
 -- ---- a unit from its bytes
 

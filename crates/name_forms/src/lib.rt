@@ -2,6 +2,8 @@
 #![tactic(auto)]
 
 mod names;
+#[cfg(test)]
+mod tests;
 mod units;
 
 pub use names::{is_class_name, is_field_name, is_method_name};
