@@ -1,18 +1,11 @@
 //! The forms of texts (JVMS 4.2, 4.3).
-ghost use Rattle.std.specs.Prelude.{◌≡◌, ◌&&◌, not, codes};
-ghost use Rattle.std.specs.List.{list_all};
+ghost use Rattle.std.specs.Prelude.{◌≡◌};
 ghost use Rattle.class_reader.specs.Reading.{Answers, checked, form_test};
 ghost use Rattle.class_reader.specs.Seen.{text_seen};
-ghost use Rattle.class_desc.specs.Names.{is_among, is_unqualified, is_class_name as is_class_name_of, is_method_name as is_method_name_of};
 ghost use Rattle.class_desc.specs.ClassFile.{is_plain as is_plain_text, is_field_descriptor as is_field_descriptor_of, is_method_descriptor as is_method_descriptor_of};
 
-fn is_plain(text: &[u8]) -> bool
-    ensures { result ≡ is_plain_text text.now }
-{
-    text.iter().all(|b| 0x21 <= *b && *b <= 0x7e)
-}
-
 use crate::fault::{ClassFault, ReadErr};
+use name_forms::{is_class_name, is_field_name, is_method_name};
 
 /// What a text has to be where it is named.
 #[derive(Clone, Copy)]
@@ -52,53 +45,10 @@ impl Form {
     }
 }
 
-/// Whether no name holds the byte (JVMS 4.2.2).
-fn is_separator(b: u8) -> bool
-    ensures { result ≡ is_among (codes ".;[/") b }
+fn is_plain(text: &[u8]) -> bool
+    ensures { result ≡ is_plain_text text.now }
 {
-    matches!(b, b'.' | b';' | b'[' | b'/')
-}
-
-/// Whether the byte stands in the names of the two special methods alone (JVMS 4.2.2).
-fn is_angle(b: u8) -> bool
-    ensures { result ≡ is_among (codes "<>") b }
-{
-    matches!(b, b'<' | b'>')
-}
-
-fn has_no_separator(name: &[u8]) -> bool
-    ensures { result ≡ list_all (λ b. not (is_among (codes ".;[/") b)) name.now }
-{
-    name.iter().all(|b| !is_separator(*b))
-}
-
-fn has_no_angle(name: &[u8]) -> bool
-    ensures { result ≡ list_all (λ b. not (is_among (codes "<>") b)) name.now }
-{
-    name.iter().all(|b| !is_angle(*b))
-}
-
-/// An unqualified name (JVMS 4.2.2).
-fn is_field_name(name: &[u8]) -> bool
-    ensures { result ≡ is_unqualified name.now }
-{
-    !name.is_empty() && has_no_separator(name)
-}
-
-fn is_method_name(name: &[u8]) -> bool
-    ensures { result ≡ is_method_name_of name.now }
-{
-    if name == b"<init>".as_slice() || name == b"<clinit>".as_slice() {
-        return true;
-    }
-    is_field_name(name) && has_no_angle(name)
-}
-
-/// A binary name in internal form (JVMS 4.2.1).
-fn is_class_name(name: &[u8]) -> bool
-    ensures { result ≡ is_class_name_of name.now }
-{
-    name.split(|b| *b == b'/').all(is_field_name)
+    text.iter().all(|b| 0x21 <= *b && *b <= 0x7e)
 }
 
 fn is_field_descriptor(text: &[u8]) -> bool

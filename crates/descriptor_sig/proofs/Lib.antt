@@ -1,1 +1,5 @@
 pub mod Writing
+pub mod ClassNames
+pub mod Descriptors
+pub mod Fields
+pub mod Stops

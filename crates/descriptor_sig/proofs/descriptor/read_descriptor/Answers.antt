@@ -1,0 +1,7 @@
+use Rattle.descriptor_sig.proofs.Stops.{answered}
+use Rattle.descriptor_sig.proofs.descriptor.read_descriptor.Goals as goal
+
+pub returns-in-Err-Stuck-clause-bad : goal.returns-in-Err-Stuck-clause-bad
+returns-in-Err-Stuck-clause-bad c =
+    answered c.args.text.now c.bytes-bytes.result.now c.of-reader.result.rest.now c.whole.new.self.rest.now c.left.result
+    c.of-reader.ensures c.bytes-bytes.ensures c.left.ensures (rw c.in-Err-Stuck.field-0-is at c.in-Err-Stuck.ensures)
