@@ -1,0 +1,7 @@
+mod ArgSteps
+mod Bytes
+mod Cases
+mod Leading
+mod PartSteps
+mod Shallows
+mod TypeSteps

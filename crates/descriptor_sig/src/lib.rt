@@ -1,6 +1,7 @@
 //! Descriptors and signatures (JVMS 4.3, 4.7.9.1), from texts to trees and back.
 #![tactic(auto)]
 
+mod builder;
 mod error;
 
 pub use error::SigErr;
