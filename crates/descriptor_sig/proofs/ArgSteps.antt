@@ -94,10 +94,10 @@ super_leads depth bytes left front = record { leads = λ a more s. by a more (ar
   by a more (super_stands t tail e f v) = (t, sym e, subst (λ b. TypeStands AnyType depth t b more) (rest_of_cons (sym f ∙ front)) (any_type Reference depth t tail more refl v))
   by a more (any_stands e f) = absurd (false≢true (sym (ap (begins_with 45) f) ∙ is))
 
-pub exact_leads : (depth : ℕ) (bytes : List ℕ) → begins_with 42 bytes ≡ false → begins_with 43 bytes ≡ false → begins_with 45 bytes ≡ false → Leads arg.Exact (ArgStands depth) (TypeStands AnyType depth) bytes bytes
-exact_leads depth bytes star plus minus = record { leads = λ a more s. by a more (arg_start depth a bytes more s) } where
-  by : (a : JArg) (more : List ℕ) → ArgStart depth a bytes more → (t : JType) × (arg.Exact t ≡ a) × TypeStands AnyType depth t bytes more
-  by a more (exact_stands t e v) = (t, sym e, any_type Reference depth t bytes more refl v)
+pub exact_leads : (depth : ℕ) (bytes rest : List ℕ) → rest ≡ bytes → begins_with 42 bytes ≡ false → begins_with 43 bytes ≡ false → begins_with 45 bytes ≡ false → Leads arg.Exact (ArgStands depth) (TypeStands AnyType depth) bytes rest
+exact_leads depth bytes rest same star plus minus = record { leads = λ a more s. by a more (arg_start depth a bytes more s) } where
+  by : (a : JArg) (more : List ℕ) → ArgStart depth a bytes more → (t : JType) × (arg.Exact t ≡ a) × TypeStands AnyType depth t rest more
+  by a more (exact_stands t e v) = (t, sym e, subst (λ b. TypeStands AnyType depth t b more) (sym same) (any_type Reference depth t bytes more refl v))
   by a more (extends_stands t tail e f v) = absurd (false≢true (sym plus ∙ ap (begins_with 43) f))
   by a more (super_stands t tail e f v) = absurd (false≢true (sym minus ∙ ap (begins_with 45) f))
   by a more (any_stands e f) = absurd (false≢true (sym star ∙ ap (begins_with 42) f))
@@ -115,23 +115,23 @@ args_row depth (a ∷ args) more form shallow =
    record { form = f.0; shallow = shallow_left (arg_levels a depth) (flat_map (λ l. l depth) (map arg_levels args)) shallow; whole = append_assoc (arg_text a) (concat (map arg_text args)) more },
    args_row depth args more f.1 (shallow_right (arg_levels a depth) (flat_map (λ l. l depth) (map arg_levels args)) shallow))
 
-pub args_lead : (depth : ℕ) (bytes left : List ℕ) → bytes ≡ 60 ∷ left → Leads (behind []) (ArgsStand depth) (ArgsRow (depth + 1)) bytes left
-args_lead depth bytes left front = record { leads = by } where
+pub args_lead : (depth : ℕ) (bytes left : List ℕ) → bytes ≡ 60 ∷ left → (none : List JArg) → none ≡ [] → Leads (behind none) (ArgsStand depth) (ArgsRow (depth + 1)) bytes left
+args_lead depth bytes left front none is = record { leads = by } where
   no_end : (more : List ℕ) → begins_among (codes ".;") more ≡ true → bytes ≡ more → begins_among (codes ".;") (60 ∷ left) ≡ true
   no_end more e same = ap (begins_among (codes ".;")) (sym front ∙ same) ∙ e
-  by : (args : List JArg) (more : List ℕ) → ArgsStand depth args bytes more → (later : List JArg) × (behind [] later ≡ args) × ArgsRow (depth + 1) later left more
+  by : (args : List JArg) (more : List ℕ) → ArgsStand depth args bytes more → (later : List JArg) × (behind none later ≡ args) × ArgsRow (depth + 1) later left more
   by [] more s = absurd (false≢true (no_end more s.stops s.whole))
   by (a ∷ args) more s =
     let levels : Shallow (flat_map (λ l. l (depth + 1)) (map arg_levels (a ∷ args))) = shallow_left (flat_map (λ l. l (depth + 1)) (map arg_levels (a ∷ args))) (0 ∷ []) (shallow_tail (depth + 1) _ s.shallow) in
     let row = args_row (depth + 1) (a ∷ args) (62 ∷ more) s.form levels in
     let same : left ≡ concat (map arg_text (a ∷ args)) ++ (62 ∷ more) = rest_of_cons (sym front ∙ s.whole) ∙ append_assoc (concat (map arg_text (a ∷ args))) (62 ∷ []) more in
-    (a ∷ args, refl, subst (λ b. Row (ArgStands (depth + 1)) (a ∷ args) b (62 ∷ more)) (sym same) row)
+    (a ∷ args, ap (λ items. items ++ (a ∷ args)) is, subst (λ b. Row (ArgStands (depth + 1)) (a ∷ args) b (62 ∷ more)) (sym same) row)
 
-pub no_args : (depth : ℕ) (bytes : List ℕ) → begins_with 60 bytes ≡ false → Builds (ArgsStand depth) bytes (Ok []) bytes
-no_args depth bytes differs = record { gives = by } where
-  by : (args : List JArg) (more : List ℕ) → ArgsStand depth args bytes more → ([] ≡ args) × (bytes ≡ more)
-  by [] more s = (refl, s.whole)
-  by (a ∷ args) more s = absurd (false≢true (sym differs ∙ ap (begins_with 60) s.whole))
+pub no_args : (depth : ℕ) (bytes left : List ℕ) → (begins_with 60 bytes ≡ false) × (left ≡ bytes) → (none : List JArg) → none ≡ [] → Builds (ArgsStand depth) bytes (Ok none) left
+no_args depth bytes left differs none is = record { gives = by } where
+  by : (args : List JArg) (more : List ℕ) → ArgsStand depth args bytes more → (none ≡ args) × (left ≡ more)
+  by [] more s = (is, differs.1 ∙ s.whole)
+  by (a ∷ args) more s = absurd (false≢true (sym differs.0 ∙ ap (begins_with 60) s.whole))
 
 pub too_deep : (depth : ℕ) (bytes rest left : List ℕ) (e : SigErr) → bytes ≡ 60 ∷ rest → 64 ≤ depth → Builds (ArgsStand depth) bytes (Err e) left
 too_deep depth bytes rest left e front deep = record { gives = by } where
@@ -139,11 +139,11 @@ too_deep depth bytes rest left e front deep = record { gives = by } where
   by [] more s = absurd (false≢true (ap (begins_among (codes ".;")) (sym front ∙ s.whole) ∙ s.stops))
   by (a ∷ args) more s = let h = shallow_head (depth + 1) _ s.shallow in absurd (omega arith)
 
-pub arg_next : (depth : ℕ) (bytes : List ℕ) → begins_with 62 bytes ≡ false → Splits cons (ArgsRow depth) (ArgStands depth) (ArgsRow depth) bytes bytes
-arg_next depth bytes differs = record { splits = by } where
-  by : (args : List JArg) (more : List ℕ) → ArgsRow depth args bytes more → (a : JArg) × (later : List JArg) × (middle : List ℕ) × (cons a later ≡ args) × ArgStands depth a bytes middle × ArgsRow depth later middle more
-  by [] more s = absurd (false≢true (sym differs ∙ ap (begins_with 62) s))
-  by (a ∷ later) more s = (a, later, s.0, refl, s.1, s.2)
+pub arg_next : (depth : ℕ) (bytes rest : List ℕ) → (begins_with 62 bytes ≡ false) × (rest ≡ bytes) → Splits cons (ArgsRow depth) (ArgStands depth) (ArgsRow depth) bytes rest
+arg_next depth bytes rest differs = record { splits = by } where
+  by : (args : List JArg) (more : List ℕ) → ArgsRow depth args bytes more → (a : JArg) × (later : List JArg) × (middle : List ℕ) × (cons a later ≡ args) × ArgStands depth a rest middle × ArgsRow depth later middle more
+  by [] more s = absurd (false≢true (sym differs.0 ∙ ap (begins_with 62) s))
+  by (a ∷ later) more s = (a, later, s.0, refl, subst (λ b. ArgStands depth a b s.0) (sym differs.1) s.1, s.2)
 
 pub args_end : (depth : ℕ) (bytes left : List ℕ) → bytes ≡ 62 ∷ left → Builds (ArgsRow depth) bytes (Ok []) left
 args_end depth bytes left front = record { gives = by } where

@@ -10,7 +10,7 @@ use Rattle.class_desc.specs.Types.{part_text, arg_text, parts_text, args_text}
 use Rattle.class_desc.specs.Signature.{is_part, is_arg, are_parts, is_identifier, is_binary_name}
 use Rattle.class_desc.specs.Nesting.{Levels, part_levels, arg_levels, parts_levels, args_levels, flat}
 use Rattle.class_desc.proofs.Layers.{text_part, form_part, levels_part}
-use Rattle.descriptor_sig.specs.Standing.{Builds, Leads, Shallow, Row, RowTo, Marked, Takes, begins_with, begins_among, is_plain_name, NameStands, VariableStands, PartStands, PartsStand, ArgsStand}
+use Rattle.descriptor_sig.specs.Standing.{Builds, Leads, Shallow, Row, RowTo, Marked, Takes, begins_with, begins_among, is_plain_name, NameStands, PartStands, PartsStand, ArgsStand}
 use Rattle.descriptor_sig.proofs.Bytes.{both, first_of_cons, rest_of_cons, identifier_is_plain, binary_is_plain}
 use Rattle.descriptor_sig.proofs.Leading.{Splits, cons}
 use Rattle.descriptor_sig.proofs.Shallows.{shallow_left, shallow_right, shallow_tail}
@@ -65,13 +65,13 @@ part_next depth bytes rest dot = record { splits = by } where
     let m = s.1 in
     (part, later, s.0, refl, subst (λ b. PartStands depth part b s.0) (sym (rest_of_cons (sym dot ∙ m.front))) m.stands, s.2)
 
-pub parts_end : (depth : ℕ) (bytes left : List ℕ) (r : Option ℕ) → begins_with 46 bytes ≡ false → Takes bytes r left → Builds (PartsRow depth) bytes (Ok []) left
-parts_end depth bytes left r no_dot takes = record { gives = λ parts more s. by r takes parts more s } where
-  by : (r : Option ℕ) → Takes bytes r left → (parts : List JPart) (more : List ℕ) → PartsRow depth parts bytes more → ([] ≡ parts) × (left ≡ more)
+pub parts_end : (depth : ℕ) (bytes same left : List ℕ) (r : Option ℕ) → (begins_with 46 bytes ≡ false) × (same ≡ bytes) → Takes same r left → Builds (PartsRow depth) bytes (Ok []) left
+parts_end depth bytes same left r no_dot takes = record { gives = λ parts more s. by r takes parts more s } where
+  by : (r : Option ℕ) → Takes same r left → (parts : List JPart) (more : List ℕ) → PartsRow depth parts bytes more → ([] ≡ parts) × (left ≡ more)
   by None empty [] more s = absurd cc
-  by None empty (part ∷ later) more s = absurd cc
-  by (Some b) front [] more s = (refl, rest_of_cons (sym front ∙ s))
-  by (Some b) front (part ∷ later) more s = absurd (false≢true (sym no_dot ∙ ap (begins_with 46) s.1.front))
+  by None empty (part ∷ later) more s = absurd (false≢true (sym no_dot.0 ∙ ap (begins_with 46) s.1.front))
+  by (Some b) front [] more s = (refl, rest_of_cons (sym front ∙ (no_dot.1 ∙ s)))
+  by (Some b) front (part ∷ later) more s = absurd (false≢true (sym no_dot.0 ∙ ap (begins_with 46) s.1.front))
 
 -- ---- a part
 
@@ -97,5 +97,3 @@ part_splits depth bytes = record { splits = λ part more s.
    record { plain = f.0; stops = args_front layer.args more s.stops; whole = s.whole ∙ (ap (λ text. text ++ more) (text_part part) ∙ append_assoc layer.name (args_text (map arg_text layer.args)) more) },
    record { form = f.1; shallow = shallow_right (flat layer.name) (args_levels (map arg_levels layer.args) depth) levels; stops = s.stops; whole = refl }) }
 
-pub variable_splits : (bytes : List ℕ) (name more : List ℕ) → VariableStands name bytes more → NameStands name bytes (59 ∷ more)
-variable_splits bytes name more s = record { plain = s.plain; stops = refl; whole = s.whole }

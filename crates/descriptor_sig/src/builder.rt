@@ -53,7 +53,8 @@ impl<'a> Builder<'a> {
     }
 
     fn next(&mut self) -> Option<u8>
-        ensures { Takes self.old result self.new }
+        ensures taken { Takes self.old result self.new }
+        ensures shrinks { length self.new ≤ length self.old }
     {
         match self.rest.split_first() {
             Some((first, rest)) => {
@@ -96,7 +97,8 @@ impl<'a> Builder<'a> {
 
     /// A type variable, with its `;`.
     fn variable(&mut self, alloc: Global) -> Result<Text, SigErr>
-        ensures { Builds VariableStands self.old result self.new }
+        ensures built { Builds VariableStands self.old result self.new }
+        ensures shrinks { length self.new ≤ length self.old }
     {
         let name = Text::of(alloc, self.name())?;
         self.next();
