@@ -31,14 +31,15 @@ arg_start : (depth : ℕ) (a : JArg) (bytes more : List ℕ) → ArgStands depth
 arg_start depth a bytes more s = by (arg_kind a) where
   at : (v : JArg) → a ≡ v → ArgStands depth v bytes more
   at v e = subst (λ u. ArgStands depth u bytes more) e s
+
   by : ArgKind a → ArgStart depth a bytes more
   by (is_exact t e) = let v = at (arg.Exact t) e in
-    exact_stands t e (record { form = sym (form_exact t) ∙ v.form; shallow = subst Shallow (levels_exact t depth) v.shallow; whole = v.whole ∙ ap (λ text. text ++ more) (text_exact t) })
+      exact_stands t e (record { form = sym (form_exact t) ∙ v.form; shallow = subst Shallow (levels_exact t depth) v.shallow; whole = v.whole ∙ ap (λ text. text ++ more) (text_exact t) })
   by (is_extends t e) = let v = at (arg.Extends t) e in
-    extends_stands t (type_text t ++ more) e (v.whole ∙ ap (λ text. text ++ more) (text_extends t))
+      extends_stands t (type_text t ++ more) e (v.whole ∙ ap (λ text. text ++ more) (text_extends t))
       (record { form = sym (form_extends t) ∙ v.form; shallow = shallow_tail 0 (type_levels t depth) (subst Shallow (levels_extends t depth) v.shallow); whole = refl })
   by (is_super t e) = let v = at (arg.Super t) e in
-    super_stands t (type_text t ++ more) e (v.whole ∙ ap (λ text. text ++ more) (text_super t))
+      super_stands t (type_text t ++ more) e (v.whole ∙ ap (λ text. text ++ more) (text_super t))
       (record { form = sym (form_super t) ∙ v.form; shallow = shallow_tail 0 (type_levels t depth) (subst Shallow (levels_super t depth) v.shallow); whole = refl })
   by (is_any e) = any_stands e ((at arg.Any e).whole ∙ ap (λ text. text ++ more) text_any)
 
@@ -49,7 +50,7 @@ not_first x b differs among = by (b == x) refl where
   by true e = absurd (false≢true (sym differs ∙ (sym (ap (λ y. 76 == y || (84 == y || (91 == y || false))) (eqb-true b x e)) ∙ among)))
   by false e = refl
 
-begins_else : (x : ℕ) (bytes : List ℕ) → begins_among (76 ∷ 84 ∷ 91 ∷ []) (x ∷ []) ≡ false → begins_among (76 ∷ 84 ∷ 91 ∷ []) bytes ≡ true → begins_with x bytes ≡ false
+pub begins_else : (x : ℕ) (bytes : List ℕ) → begins_among (76 ∷ 84 ∷ 91 ∷ []) (x ∷ []) ≡ false → begins_among (76 ∷ 84 ∷ 91 ∷ []) bytes ≡ true → begins_with x bytes ≡ false
 begins_else x [] differs among = refl
 begins_else x (b ∷ bytes) differs among = not_first x b differs among
 
@@ -68,6 +69,7 @@ pub any_built : (depth : ℕ) (bytes left : List ℕ) → bytes ≡ 42 ∷ left 
 any_built depth bytes left front = record { gives = λ a more s. by a more (arg_start depth a bytes more s) } where
   is : begins_with 42 bytes ≡ true
   is = ap (begins_with 42) front
+
   by : (a : JArg) (more : List ℕ) → ArgStart depth a bytes more → (arg.Any ≡ a) × (left ≡ more)
   by a more (exact_stands t e v) = absurd (false≢true (sym (begins_else 42 bytes refl (reference_front depth t bytes more v)) ∙ is))
   by a more (extends_stands t tail e f v) = absurd (false≢true (sym (ap (begins_with 42) f) ∙ is))
@@ -78,6 +80,7 @@ pub extends_leads : (depth : ℕ) (bytes left : List ℕ) → bytes ≡ 43 ∷ l
 extends_leads depth bytes left front = record { leads = λ a more s. by a more (arg_start depth a bytes more s) } where
   is : begins_with 43 bytes ≡ true
   is = ap (begins_with 43) front
+
   by : (a : JArg) (more : List ℕ) → ArgStart depth a bytes more → (t : JType) × (arg.Extends t ≡ a) × TypeStands AnyType depth t left more
   by a more (exact_stands t e v) = absurd (false≢true (sym (begins_else 43 bytes refl (reference_front depth t bytes more v)) ∙ is))
   by a more (extends_stands t tail e f v) = (t, sym e, subst (λ b. TypeStands AnyType depth t b more) (rest_of_cons (sym f ∙ front)) (any_type Reference depth t tail more refl v))
@@ -88,6 +91,7 @@ pub super_leads : (depth : ℕ) (bytes left : List ℕ) → bytes ≡ 45 ∷ lef
 super_leads depth bytes left front = record { leads = λ a more s. by a more (arg_start depth a bytes more s) } where
   is : begins_with 45 bytes ≡ true
   is = ap (begins_with 45) front
+
   by : (a : JArg) (more : List ℕ) → ArgStart depth a bytes more → (t : JType) × (arg.Super t ≡ a) × TypeStands AnyType depth t left more
   by a more (exact_stands t e v) = absurd (false≢true (sym (begins_else 45 bytes refl (reference_front depth t bytes more v)) ∙ is))
   by a more (extends_stands t tail e f v) = absurd (false≢true (sym (ap (begins_with 45) f) ∙ is))
@@ -110,22 +114,24 @@ ArgsRow depth = RowTo 62 (ArgStands depth)
 args_row : (depth : ℕ) (args : List JArg) (more : List ℕ) → list_all (λ a. a) (map is_arg args) ≡ true → Shallow (flat_map (λ levels. levels depth) (map arg_levels args)) → Row (ArgStands depth) args (concat (map arg_text args) ++ more) more
 args_row depth [] more form shallow = refl
 args_row depth (a ∷ args) more form shallow =
-  let f = both (is_arg a) (list_all (λ t. t) (map is_arg args)) form in
-  (concat (map arg_text args) ++ more,
-   record { form = f.0; shallow = shallow_left (arg_levels a depth) (flat_map (λ l. l depth) (map arg_levels args)) shallow; whole = append_assoc (arg_text a) (concat (map arg_text args)) more },
-   args_row depth args more f.1 (shallow_right (arg_levels a depth) (flat_map (λ l. l depth) (map arg_levels args)) shallow))
+    let f = both (is_arg a) (list_all (λ t. t) (map is_arg args)) form in (
+      concat (map arg_text args) ++ more,
+      record { form = f.0; shallow = shallow_left (arg_levels a depth) (flat_map (λ l. l depth) (map arg_levels args)) shallow; whole = append_assoc (arg_text a) (concat (map arg_text args)) more },
+      args_row depth args more f.1 (shallow_right (arg_levels a depth) (flat_map (λ l. l depth) (map arg_levels args)) shallow),
+    )
 
 pub args_lead : (depth : ℕ) (bytes left : List ℕ) → bytes ≡ 60 ∷ left → (none : List JArg) → none ≡ [] → Leads (behind none) (ArgsStand depth) (ArgsRow (depth + 1)) bytes left
 args_lead depth bytes left front none is = record { leads = by } where
   no_end : (more : List ℕ) → begins_among (codes ".;") more ≡ true → bytes ≡ more → begins_among (codes ".;") (60 ∷ left) ≡ true
   no_end more e same = ap (begins_among (codes ".;")) (sym front ∙ same) ∙ e
+
   by : (args : List JArg) (more : List ℕ) → ArgsStand depth args bytes more → (later : List JArg) × (behind none later ≡ args) × ArgsRow (depth + 1) later left more
   by [] more s = absurd (false≢true (no_end more s.stops s.whole))
   by (a ∷ args) more s =
-    let levels : Shallow (flat_map (λ l. l (depth + 1)) (map arg_levels (a ∷ args))) = shallow_left (flat_map (λ l. l (depth + 1)) (map arg_levels (a ∷ args))) (0 ∷ []) (shallow_tail (depth + 1) _ s.shallow) in
-    let row = args_row (depth + 1) (a ∷ args) (62 ∷ more) s.form levels in
-    let same : left ≡ concat (map arg_text (a ∷ args)) ++ (62 ∷ more) = rest_of_cons (sym front ∙ s.whole) ∙ append_assoc (concat (map arg_text (a ∷ args))) (62 ∷ []) more in
-    (a ∷ args, ap (λ items. items ++ (a ∷ args)) is, subst (λ b. Row (ArgStands (depth + 1)) (a ∷ args) b (62 ∷ more)) (sym same) row)
+      let levels : Shallow (flat_map (λ l. l (depth + 1)) (map arg_levels (a ∷ args))) = shallow_left (flat_map (λ l. l (depth + 1)) (map arg_levels (a ∷ args))) (0 ∷ []) (shallow_tail (depth + 1) _ s.shallow) in
+      let row = args_row (depth + 1) (a ∷ args) (62 ∷ more) s.form levels in
+      let same : left ≡ concat (map arg_text (a ∷ args)) ++ (62 ∷ more) = rest_of_cons (sym front ∙ s.whole) ∙ append_assoc (concat (map arg_text (a ∷ args))) (62 ∷ []) more in
+      (a ∷ args, ap (λ items. items ++ (a ∷ args)) is, subst (λ b. Row (ArgStands (depth + 1)) (a ∷ args) b (62 ∷ more)) (sym same) row)
 
 pub no_args : (depth : ℕ) (bytes left : List ℕ) → (begins_with 60 bytes ≡ false) × (left ≡ bytes) → (none : List JArg) → none ≡ [] → Builds (ArgsStand depth) bytes (Ok none) left
 no_args depth bytes left differs none is = record { gives = by } where

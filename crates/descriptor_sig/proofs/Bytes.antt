@@ -25,9 +25,9 @@ rest_of_cons e = cc
 pub place_behind : (p : ℕ → Bool) (front more : List ℕ) → list_all (λ b. not (p b)) front ≡ true → position_or_len p more ≡ 0 → position_or_len p (front ++ more) ≡ length front
 place_behind p [] more all z = z
 place_behind p (b ∷ front) more all z =
-  let h = both (not (p b)) (list_all (λ b. not (p b)) front) all in
-  let k = place_behind p front more h.1 z in
-  ap (λ t. cond t (1 + position_or_len p (front ++ more)) 0) h.0 ∙ omega (arith, k)
+    let h = both (not (p b)) (list_all (λ b. not (p b)) front) all in
+    let k = place_behind p front more h.1 z in
+    ap (λ t. cond t (1 + position_or_len p (front ++ more)) 0) h.0 ∙ omega (arith, k)
 
 pub stopped : (p : ℕ → Bool) (b : ℕ) (more : List ℕ) → p b ≡ true → position_or_len p (b ∷ more) ≡ 0
 stopped p b more e = ap (λ t. cond (not t) (1 + position_or_len p more) 0) e
@@ -40,10 +40,13 @@ pub name_place : (name more : List ℕ) → is_plain_name name ≡ true → begi
 name_place name more plain stops = place_behind ends_name name more plain (stop_among more stops)
 
 pub names_build : (bytes front back : List ℕ) (n : ℕ) → n ≡ position_or_len ends_name bytes → front ≡ take n bytes → back ≡ drop n bytes → Builds NameStands bytes (Ok front) back
-names_build bytes front back n is f b = record { gives = λ name more s.
-  let e : n ≡ length name = is ∙ (ap (position_or_len ends_name) s.whole ∙ name_place name more s.plain s.stops) in
-  (f ∙ (ap (λ k. take k bytes) e ∙ (ap (take (length name)) s.whole ∙ take-append_seam name more)),
-   b ∙ (ap (λ k. drop k bytes) e ∙ (ap (drop (length name)) s.whole ∙ drop-append_seam name more))) }
+names_build bytes front back n is f b = record {
+  gives = λ name more s.
+      let e : n ≡ length name = is ∙ (ap (position_or_len ends_name) s.whole ∙ name_place name more s.plain s.stops) in (
+        f ∙ (ap (λ k. take k bytes) e ∙ (ap (take (length name)) s.whole ∙ take-append_seam name more)),
+        b ∙ (ap (λ k. drop k bytes) e ∙ (ap (drop (length name)) s.whole ∙ drop-append_seam name more)),
+      );
+}
 
 -- ---- dimensions
 
@@ -57,10 +60,13 @@ drop_brackets zero more = refl
 drop_brackets (suc dims) more = drop_brackets dims more
 
 pub dimensions_build : (bytes back : List ℕ) (n dims : ℕ) → n ≡ prefix_len (λ b. b == 91) bytes → (n < 2 ^ 32 → dims ≡ n) → back ≡ drop n bytes → Builds DimensionsStand bytes (Ok dims) back
-dimensions_build bytes back n dims is few b = record { gives = λ number more s.
-  let e : n ≡ number = is ∙ (ap (prefix_len (λ b. b == 91)) s.whole ∙ count_brackets number more s.stops) in
-  (few (subst (λ k. k < 2 ^ 32) (sym e) s.few) ∙ e,
-   b ∙ (ap (λ k. drop k bytes) e ∙ (ap (drop number) s.whole ∙ drop_brackets number more))) }
+dimensions_build bytes back n dims is few b = record {
+  gives = λ number more s.
+      let e : n ≡ number = is ∙ (ap (prefix_len (λ b. b == 91)) s.whole ∙ count_brackets number more s.stops) in (
+        few (subst (λ k. k < 2 ^ 32) (sym e) s.few) ∙ e,
+        b ∙ (ap (λ k. drop k bytes) e ∙ (ap (drop number) s.whole ∙ drop_brackets number more)),
+      );
+}
 
 -- a number that fits 32 bits is kept
 pub kept_if_few : (E : Type 0) (r : Result ℕ E) (n most : ℕ) → OkIff r (n < 2 ^ 32) n → n < 2 ^ 32 → result_unwrap_or r most ≡ n
@@ -72,8 +78,8 @@ kept_if_few E (Err e) n most h few = absurd (h few)
 pub weaker : {X : Type 0} (p q : X → Bool) → ((x : X) → p x ≡ true → q x ≡ true) → (xs : List X) → list_all p xs ≡ true → list_all q xs ≡ true
 weaker p q h [] all = refl
 weaker p q h (x ∷ xs) all =
-  let k = both (p x) (list_all p xs) all in
-  ap (λ t. t && list_all q xs) (h x k.0) ∙ weaker p q h xs k.1
+    let k = both (p x) (list_all p xs) all in
+    ap (λ t. t && list_all q xs) (h x k.0) ∙ weaker p q h xs k.1
 
 -- of seven tests, the fourth left out
 but_fourth : (a b c d e f g : Bool) → not (a || (b || (c || (d || (e || (f || (g || false))))))) ≡ true → not (a || (b || (c || (e || (f || (g || false)))))) ≡ true
@@ -96,9 +102,10 @@ joined_is_plain (b ∷ bytes) all = by (b == 47) refl all (joined_is_plain bytes
   onto : (parts : List (List ℕ)) → list_all is_plain_name (onto_first b parts) ≡ true → (not (ends_name b) ≡ true) × (list_all is_plain_name parts ≡ true)
   onto [] h = ((both (not (ends_name b)) true (both (not (ends_name b) && true) true h).0).0, refl)
   onto (part ∷ parts) h =
-    let k = both (is_plain_name (b ∷ part)) (list_all is_plain_name parts) h in
-    let l = both (not (ends_name b)) (is_plain_name part) k.0 in
-    (l.0, ap (λ t. t && list_all is_plain_name parts) l.1 ∙ k.1)
+      let k = both (is_plain_name (b ∷ part)) (list_all is_plain_name parts) h in
+      let l = both (not (ends_name b)) (is_plain_name part) k.0 in
+      (l.0, ap (λ t. t && list_all is_plain_name parts) l.1 ∙ k.1)
+
   by : (t : Bool) → (b == 47) ≡ t → list_all is_plain_name (cond t ([] ∷ slice_split (λ b. b == 47) bytes) (onto_first b (slice_split (λ b. b == 47) bytes))) ≡ true → (list_all is_plain_name (slice_split (λ b. b == 47) bytes) ≡ true → is_plain_name bytes ≡ true) → is_plain_name (b ∷ bytes) ≡ true
   by true e h k = ap (λ x. not (ends_name x) && is_plain_name bytes) (eqb-true b 47 e) ∙ k h
   by false e h k = let o = onto (slice_split (λ b. b == 47) bytes) h in ap (λ t. t && is_plain_name bytes) o.0 ∙ k o.1

@@ -4,4 +4,5 @@ mod Cases
 mod Leading
 mod PartSteps
 mod Shallows
+mod SignatureSteps
 mod TypeSteps

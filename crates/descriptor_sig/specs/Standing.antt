@@ -8,9 +8,9 @@ use Rattle.class_desc.specs.declared.types.JArg.{JArg}
 use Rattle.class_desc.specs.declared.types.JParam.{JParam}
 use Rattle.class_desc.specs.declared.types.JSig.{JSig}
 use Rattle.class_desc.specs.Names.{is_among}
-use Rattle.class_desc.specs.Types.{type_text, part_text, arg_text, parts_text, args_text, param_text, params_text, signature_text}
-use Rattle.class_desc.specs.Signature.{Production, AnyType, AnyResult, Place, is_type, is_part, is_arg, are_parts, is_param, SignatureSpells}
-use Rattle.class_desc.specs.Nesting.{greatest, nesting_limit, nesting, type_levels, part_levels, arg_levels, parts_levels, args_levels, param_levels, params_levels}
+use Rattle.class_desc.specs.Types.{type_text, part_text, arg_text, parts_text, args_text, bound_text, param_text, params_text}
+use Rattle.class_desc.specs.Signature.{Production, AnyType, Place, is_type, is_part, is_arg, are_parts, is_param, is_class_bound, SignatureSpells}
+use Rattle.class_desc.specs.Nesting.{greatest, nesting_limit, nesting, type_levels, part_levels, arg_levels, parts_levels, args_levels, bound_levels, param_levels, params_levels}
 use Rattle.descriptor_sig.specs.declared.error.SigErr.{SigErr}
 use Rattle.descriptor_sig.specs.declared.error.SigErr.TheVariants.{Memory}
 
@@ -128,6 +128,57 @@ pub record Marked {T : Type 0} (mark : ℕ) (Stands : T → List ℕ → List �
   pub behind : List ℕ
   pub front : bytes ≡ mark ∷ behind
   pub stands : Stands item behind more
+
+-- types, before the end or a )
+abbrev pub ends_types : List ℕ → Bool
+ends_types [] = true
+ends_types (b ∷ bytes) = b == 41
+
+pub record TypesStand (types : List JType) (bytes more : List ℕ) : Type 0 where
+  pub row : Row (TypeStands AnyType 0) types bytes more
+  pub stops : ends_types more ≡ true
+
+-- types behind a mark each, before something else
+pub record MarkedStand (mark : ℕ) (types : List JType) (bytes more : List ℕ) : Type 0 where
+  pub row : Row (Marked mark (TypeStands AnyType 0)) types bytes more
+  pub stops : begins_with mark more ≡ false
+
+-- ---- type parameters
+
+-- the class bound of a type parameter, there or not
+pub record BoundStands (bound : Option JType) (bytes more : List ℕ) : Type 0 where
+  pub form : is_class_bound bound ≡ true
+  pub shallow : Shallow (bound_levels bound)
+  pub stops : is_before_type more ≡ false
+  pub whole : bytes ≡ bound_text bound ++ more
+
+-- a type parameter, before the next one or the end of them
+pub record ParamStands (param : JParam) (bytes more : List ℕ) : Type 0 where
+  pub form : is_param param ≡ true
+  pub shallow : Shallow (param_levels param)
+  pub unmarked : begins_with 58 more ≡ false
+  pub stops : is_before_type more ≡ false
+  pub whole : bytes ≡ param_text param ++ more
+
+pub record ParamsStand (params : List JParam) (bytes more : List ℕ) : Type 0 where
+  pub form : list_all is_param params ≡ true
+  pub shallow : Shallow (params_levels params)
+  pub stops : begins_with 60 more ≡ false
+  pub whole : bytes ≡ params_text params ++ more
+
+-- ---- signatures
+
+-- the types of a method's parameters, between ( and )
+pub record FormalsStand (formals : List JType) (bytes more : List ℕ) : Type 0 where
+  pub behind : List ℕ
+  pub front : bytes ≡ 40 ∷ behind
+  pub types : TypesStand formals behind (41 ∷ more)
+
+-- a whole signature
+pub record SigStands (place : Place) (sig : JSig) (bytes more : List ℕ) : Type 0 where
+  pub spelled : SignatureSpells place sig bytes
+  pub nested : nesting sig ≤ nesting_limit
+  pub ends : more ≡ []
 
 -- ---- steps between readings
 

@@ -1,7 +1,7 @@
 ghost use Rattle.std.specs.Prelude.{◌≡◌, ◌<◌, ◌≤◌, ◌==◌, not, length, Ok, OnOk};
 ghost use Rattle.std.specs.List.{position_or_len, prefix_len};
 ghost use Rattle.class_desc.specs.Signature.{AnyType, Element};
-ghost use Rattle.descriptor_sig.specs.Standing.{Builds, Takes, Passes, is_before_type as is_before_type_of, NameStands, VariableStands, DimensionsStand, TypeStands, PartStands, PartsStand, ArgsStand, ArgStands, ends_name as ends_name_of};
+ghost use Rattle.descriptor_sig.specs.Standing.{Builds, Takes, Passes, is_before_type as is_before_type_of, NameStands, VariableStands, DimensionsStand, TypeStands, PartStands, PartsStand, ArgsStand, ArgStands, ends_name as ends_name_of, ends_types as ends_types_of};
 
 use crate::error::SigErr;
 use class_desc::{JArg, JPart, JType};
@@ -14,7 +14,7 @@ use std::marker::Model;
 const NESTING_LIMIT: u32 = 64;
 
 /// What a branch answers that no signature meets.
-const UNMET: SigErr = SigErr::BadText { at: 0 };
+pub const UNMET: SigErr = SigErr::BadText { at: 0 };
 
 /// The bytes of a signature that are still to be read.
 ///
@@ -52,7 +52,7 @@ impl<'a> Builder<'a> {
         self.rest.is_empty()
     }
 
-    fn next(&mut self) -> Option<u8>
+    pub fn next(&mut self) -> Option<u8>
         ensures taken { Takes self.old result self.new }
         ensures shrinks { length self.new ≤ length self.old }
     {
@@ -86,7 +86,7 @@ impl<'a> Builder<'a> {
         self.rest.iter().take_while(|b| !ends_name(**b)).count()
     }
 
-    fn name(&mut self) -> &'a [u8]
+    pub fn name(&mut self) -> &'a [u8]
         ensures name { Builds NameStands self.old (Ok result.now) self.new }
         ensures shrinks { length self.new ≤ length self.old }
     {
@@ -121,6 +121,13 @@ impl<'a> Builder<'a> {
         let (_, rest) = self.rest.split_at(count);
         self.rest = rest;
         u32::try_from(count).unwrap_or(u32::MAX)
+    }
+
+    /// Whether no further type of a list stands next.
+    pub fn ends_types(&self) -> bool
+        ensures { result ≡ ends_types_of self.now }
+    {
+        matches!(self.rest.first(), None | Some(b')'))
     }
 
     /// Whether a type stands behind the `:` of a type parameter: a class or a type variable, unless it is the name of the next type parameter, or an array.

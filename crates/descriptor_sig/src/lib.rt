@@ -3,5 +3,6 @@
 
 mod builder;
 mod error;
+mod signature;
 
 pub use error::SigErr;

@@ -27,9 +27,9 @@ argument-returns-then-eats-3-clause-built t c = leads_ok (super_leads c.args.dep
 
 pub argument-returns-clause-built : goal.argument-returns-clause-built
 argument-returns-clause-built t c =
-  let same = c.if-eats.ensures.1 in
-  let again = c.if-eats-2.ensures.1 ∙ same in
-  leads_ok (exact_leads c.args.depth c.args.self.now c.eats-3.new.self (c.if-eats-3.ensures.1 ∙ again) c.if-eats.ensures.0 (ap (begins_with 43) (sym same) ∙ c.if-eats-2.ensures.0) (ap (begins_with 45) (sym again) ∙ c.if-eats-3.ensures.0)) c.in_ok-java_type-3.ensures.built refl
+    let same = c.if-eats.ensures.1 in
+    let again = c.if-eats-2.ensures.1 ∙ same in
+    leads_ok (exact_leads c.args.depth c.args.self.now c.eats-3.new.self (c.if-eats-3.ensures.1 ∙ again) c.if-eats.ensures.0 (ap (begins_with 43) (sym same) ∙ c.if-eats-2.ensures.0) (ap (begins_with 45) (sym again) ∙ c.if-eats-3.ensures.0)) c.in_ok-java_type-3.ensures.built refl
 
 -- ---- arguments
 
