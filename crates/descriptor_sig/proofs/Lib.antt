@@ -4,5 +4,6 @@ mod Cases
 mod Leading
 mod PartSteps
 mod Shallows
+mod ParamSteps
 mod SignatureSteps
 mod TypeSteps

@@ -217,6 +217,7 @@ type_first depth t bytes more s = let p = (type_splits depth bytes).splits t mor
   plain element middle same (prim_stands letter e p f) = first_is letter more (same ∙ f) (primitive_starts letter p)
   plain element middle same (named_stands parts tail e f p) = first_is 76 tail (same ∙ f) refl
   plain element middle same (var_stands name tail e f v) = first_is 84 tail (same ∙ f) refl
+
   by : (dims : ℕ) (element : JType) (middle : List ℕ) → DimensionsStand dims bytes middle → TypeStands Element depth element middle more → TypeFirst bytes
   by zero element middle d v = plain element middle d.whole (element_kind depth element middle more v)
   by (suc dims) element middle d v = first_is 91 (replicate dims 91 ++ middle) d.whole refl
@@ -227,5 +228,6 @@ type_unlike x depth t bytes more differs s = by (type_first depth t bytes more s
   unlike : (b : ℕ) → is_among type_starts b ≡ true → (t : Bool) → (b == x) ≡ t → t ≡ false
   unlike b e true h = absurd (false≢true (sym differs ∙ (sym (ap (is_among type_starts) (eqb-true b x h)) ∙ e)))
   unlike b e false h = refl
+
   by : TypeFirst bytes → begins_with x bytes ≡ false
   by (first_is b tail f e) = ap (begins_with x) f ∙ unlike b e (b == x) refl

@@ -1,7 +1,7 @@
 use Rattle.std.proofs.Common.{sym, refl}
 use Rattle.std.proofs.lemmas.Result.{err_from_is_err_and}
 use Rattle.descriptor_sig.proofs.Leading.{leads_ok, leads_err}
-use Rattle.descriptor_sig.proofs.SignatureSteps.{no_bound, bound_leads}
+use Rattle.descriptor_sig.proofs.ParamSteps.{no_bound, bound_leads}
 use Rattle.descriptor_sig.proofs.builder.Builder.class_bound.Goals as goal
 
 pub returns-then-not-is_before_type-clause-built : goal.returns-then-not-is_before_type-clause-built

@@ -1,7 +1,7 @@
 use Rattle.std.proofs.Common.{◌∙◌}
 use Rattle.std.proofs.lemmas.Result.{err_from_is_err_and}
 use Rattle.descriptor_sig.proofs.Leading.{one_more, one_fails, all_done}
-use Rattle.descriptor_sig.proofs.SignatureSteps.{no_params, params_lead, param_next, params_end}
+use Rattle.descriptor_sig.proofs.ParamSteps.{no_params, params_lead, param_next, params_end}
 use Rattle.descriptor_sig.proofs.builder.Builder.parameters.Goals as goal
 
 pub returns-then-not-eats : goal.returns-then-not-eats

@@ -1,7 +1,7 @@
 use Rattle.std.proofs.Common.{length}
 use Rattle.descriptor_sig.specs.Standing.{Leads, ParamsStand}
 use Rattle.descriptor_sig.proofs.Leading.{behind}
-use Rattle.descriptor_sig.proofs.SignatureSteps.{ParamsRow}
+use Rattle.descriptor_sig.proofs.ParamSteps.{ParamsRow}
 use Rattle.descriptor_sig.proofs.builder.Builder.parameters.Given as goal
 
 abbrev pub invariant-loop-alloc : goal.invariant-loop-alloc

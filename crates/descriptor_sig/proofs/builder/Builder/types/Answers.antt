@@ -1,7 +1,7 @@
 use Rattle.std.proofs.Common.{sym, refl}
 use Rattle.std.proofs.lemmas.Result.{err_from_is_err_and}
 use Rattle.descriptor_sig.proofs.Leading.{one_more, one_fails, all_done}
-use Rattle.descriptor_sig.proofs.SignatureSteps.{types_next, types_end}
+use Rattle.descriptor_sig.proofs.ParamSteps.{types_next, types_end}
 use Rattle.descriptor_sig.proofs.builder.Builder.types.Goals as goal
 
 pub returns-in_err-java_type : goal.returns-in_err-java_type

@@ -1,7 +1,7 @@
 use Rattle.std.proofs.Common.{ap, length, arith}
 use Rattle.std.proofs.lemmas.Result.{err_from_is_err_and}
 use Rattle.descriptor_sig.proofs.Leading.{one_more, one_fails, all_done}
-use Rattle.descriptor_sig.proofs.SignatureSteps.{marked_next, marked_end}
+use Rattle.descriptor_sig.proofs.ParamSteps.{marked_next, marked_end}
 use Rattle.descriptor_sig.proofs.builder.Builder.types_behind.Goals as goal
 
 pub returns-in_err-java_type-clause-built : goal.returns-in_err-java_type-clause-built
