@@ -1,0 +1,11 @@
+mod Expressions
+mod Items
+mod Languages
+mod Names
+mod States
+mod Types
+mod TypeLaws
+mod Signatures
+mod Lives
+mod Depths
+mod Verdicts

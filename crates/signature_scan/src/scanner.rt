@@ -1,15 +1,54 @@
-ghost use Rattle.std.specs.Prelude.{◌<◌, ◌^◌, length};
+ghost use Rattle.std.specs.Prelude.{◌≡◌, ◌<◌, ◌^◌, length};
+ghost use Rattle.signature_scan.specs.Machine as machine;
 ghost use Rattle.signature_scan.specs.Scanned.{Scanned, place_of};
 
 use crate::place::SigPlace;
+use crate::state::State;
 use crate::verdict::Verdict;
+
+/// How deep type arguments may be nested.
+const NESTING_LIMIT: u32 = 64;
 
 /// Looks at a whole text.
 pub fn scan(text: &[u8], place: SigPlace) -> Verdict
     requires { length text.now < 2 ^ 32 }
     ensures { Scanned (place_of place) text.now result }
 {
-    let _place = place;
-    let _text = text;
-    Verdict::Fine
+    let mut state = State::Start(place);
+    let mut too_deep = None;
+    for (index, byte) in text.iter().enumerate() {
+        let at = index as u32;
+        match state.next(*byte) {
+            Some(next) => {
+                state = next;
+                too_deep = first_too_deep(too_deep, next, at);
+            }
+            None => return Verdict::BadText { at },
+        }
+    }
+    if !state.is_whole() {
+        return Verdict::BadText {
+            at: text.len() as u32,
+        };
+    }
+    match too_deep {
+        None => Verdict::Fine,
+        Some(at) => Verdict::TooDeep { at },
+    }
+}
+
+/// Where type arguments were first nested too deep, once the byte at `at` has led to the state.
+fn first_too_deep(known: Option<u32>, state: State, at: u32) -> Option<u32>
+    ensures { result ≡ machine.deeper known state at }
+{
+    match known {
+        Some(first) => Some(first),
+        None => {
+            if state.depth() > NESTING_LIMIT {
+                Some(at)
+            } else {
+                None
+            }
+        }
+    }
 }

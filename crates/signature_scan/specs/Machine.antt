@@ -1,0 +1,212 @@
+-- The machine that goes over a text byte by byte. Only contracts of private functions cite it.
+use Rattle.std.specs.Prelude.{ℕ, zero, suc, ◌+◌, ◌-◌, ◌==◌, List, [], ◌∷◌, Bool, true, false, not, ◌&&◌, ◌||◌, Option, Some, None, codes, nat_lt, if◌then◌else◌}
+use Rattle.class_desc.specs.Names.{is_among}
+use Rattle.class_desc.specs.Descriptor.{is_primitive}
+use Rattle.class_desc.specs.Signature.{Production, AnyResult, AnyType, Reference, Thrown, ClassType, Element, allows_void, allows_primitive, allows_variable, allows_array}
+use Rattle.signature_scan.specs.declared.place.SigPlace.{SigPlace}
+use Rattle.signature_scan.specs.declared.place.SigPlace.TheVariants.{ClassPlace, MethodPlace, FieldPlace}
+use Rattle.signature_scan.specs.declared.part.Wanted.{Wanted}
+use Rattle.signature_scan.specs.declared.part.Wanted.TheVariants as wanted
+use Rattle.signature_scan.specs.declared.part.Part.{Part}
+use Rattle.signature_scan.specs.declared.part.Part.TheVariants as part
+use Rattle.signature_scan.specs.declared.state.Around.{Around}
+use Rattle.signature_scan.specs.declared.state.Around.TheVariants as around
+use Rattle.signature_scan.specs.declared.state.State.{State}
+use Rattle.signature_scan.specs.declared.state.State.TheVariants as state
+use Rattle.signature_scan.specs.declared.verdict.Verdict.{Verdict}
+use Rattle.signature_scan.specs.declared.verdict.Verdict.TheVariants as verdict
+
+abbrev pub production_of : Wanted → Production
+production_of wanted.AnyResult = AnyResult
+production_of wanted.AnyType = AnyType
+production_of wanted.Reference = Reference
+production_of wanted.Thrown = Thrown
+production_of wanted.ClassType = ClassType
+production_of wanted.Element = Element
+
+-- a byte that may stand in an identifier
+abbrev pub is_name_byte : ℕ → Bool
+is_name_byte b = not (is_among (codes ".;[/<>:") b)
+
+abbrev pub wants : Wanted → Around → State
+wants w a = state.Within (part.Type w) a 0
+
+abbrev pub body : SigPlace → State
+body ClassPlace = wants wanted.ClassType around.Supertypes
+body MethodPlace = state.Parenthesis
+body FieldPlace = wants wanted.Reference around.Nothing
+
+-- a signature there may have type parameters
+abbrev pub has_parameters : SigPlace → Bool
+has_parameters ClassPlace = true
+has_parameters MethodPlace = true
+has_parameters FieldPlace = false
+
+-- the first byte of a type
+abbrev pub type_begins : Wanted → Around → ℕ → ℕ → Option State
+type_begins w a depth b =
+    if b == 76 then Some (state.Within (part.ClassName false) a depth)
+    else (if b == 84 && allows_variable (production_of w) then Some (state.Within (part.VariableName false) a depth)
+    else (if b == 91 && allows_array (production_of w) then Some (state.Within (part.Dimensions 4294967294) a depth)
+    else (if (b == 86 && allows_void (production_of w)) || (is_primitive b && allows_primitive (production_of w)) then Some (state.Behind a depth) else None)))
+
+abbrev pub parenthesis : ℕ → Option State
+parenthesis b = if b == 40 then Some (state.Behind around.Formals 0) else None
+
+abbrev pub begun : SigPlace → ℕ → Option State
+begun ClassPlace b = type_begins wanted.ClassType around.Supertypes 0 b
+begun MethodPlace b = parenthesis b
+begun FieldPlace b = type_begins wanted.Reference around.Nothing 0 b
+
+abbrev pub name_goes_on : SigPlace → ℕ → Option State
+name_goes_on place b = if is_name_byte b then Some (state.ParameterName place) else None
+
+abbrev pub in_parameter_name : SigPlace → ℕ → Option State
+in_parameter_name place b = if b == 58 then Some (state.FirstBound place) else name_goes_on place b
+
+abbrev pub behind_bound : SigPlace → ℕ → Option State
+behind_bound place b =
+    if b == 58 then Some (wants wanted.Reference (around.Bounds place))
+    else (if b == 62 then Some (body place) else name_goes_on place b)
+
+abbrev pub behind_colon : SigPlace → ℕ → Option State
+behind_colon place b =
+    if b == 76 then Some (state.ClassOrName place false)
+    else (if b == 84 then Some (state.VariableOrName place false)
+    else (if b == 91 then type_begins wanted.Reference (around.Bounds place) 0 b else behind_bound place b))
+
+-- behind a class with its type arguments
+abbrev pub behind_name : Around → ℕ → ℕ → Option State
+behind_name a depth b =
+    if b == 46 then Some (state.Within (part.InnerName false) a depth)
+    else (if b == 59 then Some (state.Behind a depth) else None)
+
+-- behind the name of a class
+abbrev pub behind_class_name : Around → ℕ → ℕ → Option State
+behind_class_name a depth b = if b == 60 then Some (state.Within part.Argument a (suc depth)) else behind_name a depth b
+
+abbrev pub in_class_name : Bool → Around → ℕ → ℕ → Option State
+in_class_name true a depth b =
+    if is_name_byte b then Some (state.Within (part.ClassName true) a depth)
+    else (if b == 47 then Some (state.Within (part.ClassName false) a depth) else behind_class_name a depth b)
+in_class_name false a depth b = if is_name_byte b then Some (state.Within (part.ClassName true) a depth) else None
+
+abbrev pub in_inner_name : Bool → Around → ℕ → ℕ → Option State
+in_inner_name true a depth b = if is_name_byte b then Some (state.Within (part.InnerName true) a depth) else behind_class_name a depth b
+in_inner_name false a depth b = if is_name_byte b then Some (state.Within (part.InnerName true) a depth) else None
+
+abbrev pub in_variable_name : Bool → Around → ℕ → ℕ → Option State
+in_variable_name true a depth b =
+    if is_name_byte b then Some (state.Within (part.VariableName true) a depth)
+    else (if b == 59 then Some (state.Behind a depth) else None)
+in_variable_name false a depth b = if is_name_byte b then Some (state.Within (part.VariableName true) a depth) else None
+
+abbrev pub in_class_or_name : SigPlace → Bool → ℕ → Option State
+in_class_or_name place started b =
+    if is_name_byte b then Some (state.ClassOrName place true)
+    else (if b == 58 then Some (state.FirstBound place) else in_class_name started (around.Bounds place) 0 b)
+
+abbrev pub in_variable_or_name : SigPlace → Bool → ℕ → Option State
+in_variable_or_name place started b =
+    if is_name_byte b then Some (state.VariableOrName place true)
+    else (if b == 58 then Some (state.FirstBound place) else in_variable_name started (around.Bounds place) 0 b)
+
+abbrev pub in_dimensions : ℕ → Around → ℕ → ℕ → Option State
+in_dimensions zero a depth b = if b == 91 then None else type_begins wanted.Element a depth b
+in_dimensions (suc more) a depth b =
+    if b == 91 then Some (state.Within (part.Dimensions more) a depth) else type_begins wanted.Element a depth b
+
+-- the first byte of a type argument
+abbrev pub argument_begins : Around → ℕ → ℕ → Option State
+argument_begins a depth b =
+    if b == 42 then Some (state.Behind a depth)
+    else (if b == 43 || b == 45 then Some (state.Within (part.Type wanted.Reference) a depth) else type_begins wanted.Reference a depth b)
+
+abbrev pub within : Part → Around → ℕ → ℕ → Option State
+within (part.Type w) a depth b = type_begins w a depth b
+within (part.Dimensions more) a depth b = in_dimensions more a depth b
+within (part.ClassName started) a depth b = in_class_name started a depth b
+within (part.InnerName started) a depth b = in_inner_name started a depth b
+within (part.VariableName started) a depth b = in_variable_name started a depth b
+within part.Argument a depth b = argument_begins a depth b
+within part.ArgumentsClosed a depth b = behind_name a depth b
+
+abbrev pub behind_formal : ℕ → Option State
+behind_formal b = if b == 41 then Some (wants wanted.AnyResult around.Throws) else type_begins wanted.AnyType around.Formals 0 b
+
+-- behind a type that is in no type arguments
+abbrev pub behind_outermost : Around → ℕ → Option State
+behind_outermost (around.Bounds place) b = behind_bound place b
+behind_outermost around.Supertypes b = type_begins wanted.ClassType around.Supertypes 0 b
+behind_outermost around.Formals b = behind_formal b
+behind_outermost around.Throws b = if b == 94 then Some (wants wanted.Thrown around.Throws) else None
+behind_outermost around.Nothing b = None
+
+abbrev pub behind : Around → ℕ → ℕ → Option State
+behind a zero b = behind_outermost a b
+behind a (suc depth) b = if b == 62 then Some (state.Within part.ArgumentsClosed a depth) else argument_begins a (suc depth) b
+
+abbrev pub next : State → ℕ → Option State
+next (state.Start place) b = if b == 60 && has_parameters place then Some (state.Parameter place) else begun place b
+next (state.Parameter place) b = name_goes_on place b
+next (state.ParameterName place) b = in_parameter_name place b
+next (state.FirstBound place) b = behind_colon place b
+next (state.ClassOrName place started) b = in_class_or_name place started b
+next (state.VariableOrName place started) b = in_variable_or_name place started b
+next state.Parenthesis b = parenthesis b
+next (state.Behind a depth) b = behind a depth b
+next (state.Within p a depth) b = within p a depth b
+
+abbrev pub may_end : Around → Bool
+may_end (around.Bounds place) = false
+may_end around.Supertypes = true
+may_end around.Formals = false
+may_end around.Throws = true
+may_end around.Nothing = true
+
+-- whether a signature may end here
+abbrev pub is_whole : State → Bool
+is_whole (state.Start place) = false
+is_whole (state.Parameter place) = false
+is_whole (state.ParameterName place) = false
+is_whole (state.FirstBound place) = false
+is_whole (state.ClassOrName place started) = false
+is_whole (state.VariableOrName place started) = false
+is_whole state.Parenthesis = false
+is_whole (state.Behind a zero) = may_end a
+is_whole (state.Behind a (suc depth)) = false
+is_whole (state.Within p a depth) = false
+
+-- how many type arguments are open
+abbrev pub depth_of : State → ℕ
+depth_of (state.Start place) = 0
+depth_of (state.Parameter place) = 0
+depth_of (state.ParameterName place) = 0
+depth_of (state.FirstBound place) = 0
+depth_of (state.ClassOrName place started) = 0
+depth_of (state.VariableOrName place started) = 0
+depth_of state.Parenthesis = 0
+depth_of (state.Behind a depth) = depth
+depth_of (state.Within p a depth) = depth
+
+-- where type arguments were first nested too deep, once this state is reached by the byte at this place
+abbrev pub deeper : Option ℕ → State → ℕ → Option ℕ
+deeper None s at = if nat_lt 64 (depth_of s) then Some at else None
+deeper (Some first) s at = Some first
+
+abbrev pub whole_verdict : Option ℕ → Verdict
+whole_verdict None = verdict.Fine
+whole_verdict (Some at) = verdict.TooDeep at
+
+abbrev pub end_verdict : Bool → Option ℕ → ℕ → Verdict
+end_verdict true deep at = whole_verdict deep
+end_verdict false deep at = verdict.BadText at
+
+abbrev pub go_on : Option State → (State → Verdict) → ℕ → Verdict
+go_on None further at = verdict.BadText at
+go_on (Some s) further at = further s
+
+-- the verdict on a text of which these bytes are left at this place
+abbrev pub run : State → Option ℕ → ℕ → List ℕ → Verdict
+run s deep at [] = end_verdict (is_whole s) deep at
+run s deep at (b ∷ bytes) = go_on (next s b) (λ next. run next (deeper deep next at) (at + 1) bytes) at
