@@ -3,6 +3,7 @@ mod Bytes
 mod Cases
 mod Leading
 mod PartSteps
+mod Reading
 mod Shallows
 mod ParamSteps
 mod SignatureSteps

@@ -6,3 +6,5 @@ mod error;
 mod signature;
 
 pub use error::SigErr;
+pub use signature::read_signature;
+pub use signature_scan::SigPlace;

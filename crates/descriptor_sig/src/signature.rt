@@ -1,11 +1,15 @@
-ghost use Rattle.std.specs.Prelude.{◌≡◌, ◌<◌, ◌≤◌, length, OnOk};
-ghost use Rattle.class_desc.specs.Signature.{AnyResult, AtClass, AtMethod, AtField};
+ghost use Rattle.std.specs.Prelude.{◌≡◌, ◌<◌, ◌≤◌, ◌^◌, ℕ, length, IfOk, OnOk, Ok, Err};
+ghost use Rattle.class_desc.specs.declared.types.JSig.{JSig};
+ghost use Rattle.class_desc.specs.Signature.{AnyResult, AtClass, AtMethod, AtField, SignatureSpells};
+ghost use Rattle.signature_scan.specs.Scanned.{place_of, IsFine, IsBad, IsTooDeep};
+ghost use Rattle.descriptor_sig.specs.Built.{IsBuilt};
 ghost use Rattle.descriptor_sig.specs.Standing.{Builds, TypeStands, TypesStand, MarkedStand, BoundStands, ParamStands, ParamsStand, FormalsStand, SigStands};
 
 use crate::builder::{Builder, UNMET};
 use crate::error::SigErr;
 use class_desc::{JParam, JSig, JType};
 use hdr_core::{List, Text};
+use signature_scan::{SigPlace, Verdict, scan};
 use std::alloc::Global;
 
 impl<'a> Builder<'a> {
@@ -125,5 +129,39 @@ impl<'a> Builder<'a> {
         ensures { Builds (SigStands AtField) self.old result self.new }
     {
         Ok(JSig::OfField(self.java_type(alloc, 0)?))
+    }
+}
+
+/// Builds the signature that the text is known to spell, with type arguments nested at most 64 deep.
+fn build(alloc: Global, text: &[u8], place: SigPlace) -> Result<JSig, SigErr>
+    ensures { IsBuilt (place_of place) text.now result }
+{
+    let mut builder = Builder::of(text);
+    match place {
+        SigPlace::ClassPlace => builder.class_signature(alloc),
+        SigPlace::MethodPlace => builder.method_signature(alloc),
+        SigPlace::FieldPlace => builder.field_signature(alloc),
+    }
+}
+
+/// Reads the signature of a class, a method or a field (JVMS 4.7.9.1), with type arguments nested at most 64 deep.
+///
+/// `BadText` comes just where the text spells no signature at this place, `TooDeep` just where it spells one that is nested deeper.
+pub fn read_signature(alloc: Global, text: &Text, place: SigPlace) -> Result<JSig, SigErr>
+    requires { length text.now < 2 ^ 32 }
+    ensures spelled { IfOk result (λ sig. IsFine (place_of place) text.now sig) }
+    // No other signature has this text.
+    ensures only { IfOk result
+        (λ sig. (other : JSig) → SignatureSpells (place_of place) other text.now → other ≡ sig) }
+    ensures bad { (at : ℕ) → result ≡ Err (SigErr.BadText at) → IsBad (place_of place) text.now at }
+    ensures deep { (at : ℕ)
+        → result ≡ Err (SigErr.TooDeep at)
+        → (sig : JSig) × IsTooDeep (place_of place) text.now at sig }
+{
+    let bytes = text.bytes();
+    match scan(bytes, place) {
+        Verdict::Fine => build(alloc, bytes, place),
+        Verdict::BadText { at } => Err(SigErr::BadText { at }),
+        Verdict::TooDeep { at } => Err(SigErr::TooDeep { at }),
     }
 }
