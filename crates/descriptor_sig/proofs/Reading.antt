@@ -13,8 +13,8 @@ same_nesting place text a b s t = ap greatest (levels_by_text place a s.form ∙
 
 pub only_one : (place : Place) (bytes text : List ℕ) (result : Result JSig SigErr) → bytes ≡ text → (sig : JSig) × IsFine place bytes sig → IsBuilt place bytes result → IfOk result (λ read. (other : JSig) → SignatureSpells place other text → other ≡ read)
 only_one place bytes text (Ok read) same fine built = λ other s.
-  let here = subst (SignatureSpells place other) (sym same) s in
-  sym (built.is other here (subst (λ n. n ≤ nesting_limit) (same_nesting place bytes fine.0 other fine.1.spelled here) fine.1.nested))
+    let here = subst (SignatureSpells place other) (sym same) s in
+    sym (built.is other here (subst (λ n. n ≤ nesting_limit) (same_nesting place bytes fine.0 other fine.1.spelled here) fine.1.nested))
 only_one place bytes text (Err e) same fine built = tt
 
 pub deep_at : (place : Place) (bytes text : List ℕ) (a b : ℕ) → bytes ≡ text → (sig : JSig) × IsTooDeep place bytes a sig → a ≡ b → (sig : JSig) × IsTooDeep place text b sig

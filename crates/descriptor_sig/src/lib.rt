@@ -4,6 +4,8 @@
 mod builder;
 mod error;
 mod signature;
+#[cfg(test)]
+mod signature_tests;
 
 pub use error::SigErr;
 pub use signature::read_signature;
