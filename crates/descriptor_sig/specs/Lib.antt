@@ -1,2 +1,4 @@
 pub mod Parts
 pub mod Refusals
+pub mod Built
+pub mod Standing

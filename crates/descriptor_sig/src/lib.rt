@@ -1,11 +1,15 @@
 //! Descriptors and signatures (JVMS 4.3, 4.7.9.1), from texts to trees and back.
 #![tactic(auto)]
 
+mod builder;
 mod descriptor;
 mod descriptor_reader;
 #[cfg(test)]
 mod descriptor_tests;
 mod error;
+mod signature;
+#[cfg(test)]
+mod signature_tests;
 mod stop;
 mod write;
 #[cfg(test)]
@@ -13,4 +17,6 @@ mod write_tests;
 
 pub use descriptor::read_descriptor;
 pub use error::SigErr;
+pub use signature::read_signature;
+pub use signature_scan::SigPlace;
 pub use write::write_signature;
