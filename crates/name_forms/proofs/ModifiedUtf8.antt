@@ -5,7 +5,8 @@ use Rattle.std.specs.List.{flat_map, AllByRecursion}
 use Rattle.std.proofs.lemmas.Bool.{and_parts, and_from, and_cases, or_cases, or_left, or_right, both_ways, eqb-true, eq-eqb, ltb-true, ltb-false, lt-ltb, le-ltb, leb-true, le-leb}
 use Rattle.std.proofs.lemmas.List.{take_all}
 use Rattle.std.proofs.lemmas.Grind.{flat_map-append}
-use Rattle.class_desc.specs.ModifiedUtf8.{unit_bytes, IsModifiedUtf8}
+use Rattle.hdr_core.specs.ModifiedUtf8.{unit_bytes}
+use Rattle.class_desc.specs.ModifiedUtf8.{IsModifiedUtf8}
 use Rattle.name_forms.specs.Units.{is_next_byte, is_single_byte, is_byte_pair, is_byte_triple, IsBehindUnit, HasNoUnit}
 
 -- ---- what the tests of bytes say

@@ -1,6 +1,6 @@
 -- The units of modified UTF-8, from their bytes (JVMS 4.4.7).
 use Rattle.std.specs.Prelude.{◌≡◌, ◌&&◌, ◌||◌, ◌==◌, nat_le, ℕ, ◌<◌, ◌^◌, Bool, List, ◌++◌}
-use Rattle.class_desc.specs.ModifiedUtf8.{unit_bytes}
+use Rattle.hdr_core.specs.ModifiedUtf8.{unit_bytes}
 
 -- a byte behind the first of a unit
 abbrev pub is_next_byte : ℕ → Bool
