@@ -1,5 +1,5 @@
 -- The texts, forms and nesting of some signatures, by the equations of Layers.
-use Rattle.std.proofs.Common.{◌≡◌, refl, ℕ, true, false, List, [], ◌∷◌, ◌++◌, Some, None}
+use Rattle.std.proofs.Common.{replicate, ◌≡◌, refl, ℕ, true, false, List, [], ◌∷◌, ◌++◌, Some, None}
 use Rattle.std.specs.Prelude.{codes}
 use Rattle.class_desc.specs.declared.types.JType.{JType}
 use Rattle.class_desc.specs.declared.types.JType.TheVariants as type
@@ -78,6 +78,19 @@ within_nesting = simp level refl
 -- the < of D
 within_opens : opens_at 1 within ≡ 15
 within_opens = simp level refl
+
+-- the < of type parameters counts for nothing, in their bounds and behind them
+abbrev bounded : JSig
+bounded = OfClass (record { name = codes "A"; class_bound = Some (named (part (codes "B") (arg.Any ∷ []) ∷ [])); interface_bounds = [] } ∷ []) (named (part (codes "C") (arg.Any ∷ []) ∷ [])) []
+
+bounded_text : signature_text bounded ≡ codes "<A:LB<*>;>LC<*>;"
+bounded_text = simp texts refl
+
+bounded_levels : levels bounded ≡ 0 ∷ 0 ∷ 0 ∷ 0 ∷ 0 ∷ 1 ∷ 0 ∷ 0 ∷ 0 ∷ 0 ∷ 0 ∷ 0 ∷ 1 ∷ 0 ∷ 0 ∷ 0 ∷ []
+bounded_levels = simp level refl
+
+throwing_levels : levels throwing ≡ replicate 21 0
+throwing_levels = simp level refl
 
 -- no primitive type is a type argument, nor a field's signature
 primitive_argument : is_signature AtField (OfField (named (part (codes "A") (arg.Exact (type.Prim 73) ∷ []) ∷ []))) ≡ false
