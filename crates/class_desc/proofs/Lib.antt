@@ -1,1 +1,2 @@
+mod Corners
 pub mod Layers
