@@ -1,4 +1,5 @@
 pub mod Filtered
+mod Corners
 pub mod Layers
 pub mod Levels
 pub mod Stripped

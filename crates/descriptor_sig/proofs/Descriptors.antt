@@ -1,24 +1,22 @@
 -- Descriptors, from the types of fields.
-use Rattle.std.proofs.Common.{◌≡◌, refl, ap, sym, subst, ◌∙◌, ℕ, ◌+◌, ◌-◌, ◌<◌, ◌≤◌, Bool, true, false, ◌&&◌, List, [], ◌∷◌, ◌++◌, length, zero, suc, take, drop, append_assoc, append-nil, length-append, arith, inl, inr, ◌⊎◌}
+use Rattle.std.proofs.Common.{◌≡◌, refl, ap, sym, subst, ◌∙◌, ℕ, ◌+◌, ◌-◌, ◌<◌, ◌≤◌, true, false, ◌&&◌, List, [], ◌∷◌, ◌++◌, length, zero, suc, take, drop, append_assoc, append-nil, length-append, arith, inl, inr, ◌⊎◌}
 use Rattle.std.specs.Prelude.{codes}
 use Rattle.std.specs.List.{flat_map, list_all}
 use Rattle.std.proofs.lemmas.Bool.{and_parts, and_from, false≢true, cases_lt}
-use Rattle.std.proofs.lemmas.List.{take_at, take-append-le, append_cancel_left}
+use Rattle.std.proofs.lemmas.List.{take_at}
 use Rattle.std.proofs.lemmas.List.Folds.{list_all-append}
 use Rattle.std.proofs.lemmas.Grind.{flat_map-append}
 use Rattle.class_desc.specs.declared.types.JType.{JType, out-JType, roll-JType, roll-out-JType}
 use Rattle.class_desc.specs.declared.types.JType.TheVariants as type
 use Rattle.class_desc.specs.declared.types.JPart.{JPart}
 use Rattle.class_desc.specs.declared.types.JArg.{JArg}
-use Rattle.class_desc.specs.declared.types.JArg.TheOpen.{JType-F, JPart-F}
-use Rattle.class_desc.specs.declared.types.JParam.{JParam}
+use Rattle.class_desc.specs.declared.types.JArg.TheOpen.{JType-F}
 use Rattle.class_desc.specs.declared.types.JSig.{JSig}
 use Rattle.class_desc.specs.declared.types.JSig.TheVariants.{OfClass, OfMethod, OfField}
-use Rattle.class_desc.specs.Types.{type_text, signature_text, params_text}
-use Rattle.class_desc.specs.Spelling.{Begins, IsLongestBeginning}
-use Rattle.class_desc.specs.Descriptor.{has_no_params, has_no_throws, return_layer, is_return_type, field_layer, is_field_type, is_descriptor, DescriptorSpells}
-use Rattle.class_desc.proofs.Layers.{text_void, text_prim}
-use Rattle.descriptor_sig.specs.Parts.{BeginsOtherwise, Spelling, FieldSpells, ReturnSpells, FormalsSpell, MethodSpells, IsRead, IsStuck, as_left, IsOnly, IsStuckWhole}
+use Rattle.class_desc.specs.Types.{type_text, signature_text}
+use Rattle.class_desc.specs.Descriptor.{return_layer, is_return_type, field_layer, is_field_type, is_descriptor, DescriptorSpells}
+use Rattle.class_desc.proofs.Layers.{text_void}
+use Rattle.descriptor_sig.specs.Parts.{BeginsOtherwise, FieldSpells, ReturnSpells, FormalsSpell, MethodSpells, IsRead, IsStuck, as_left, IsOnly, IsStuckWhole}
 use Rattle.descriptor_sig.specs.Refusals.{IsBadText}
 use Rattle.descriptor_sig.proofs.Fields.{begins_as, fields_apart, field_begins, begins_field}
 

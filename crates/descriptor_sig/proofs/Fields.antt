@@ -1,19 +1,18 @@
 -- The types of fields, by their dimensions and elements.
-use Rattle.std.proofs.Common.{◌≡◌, refl, ap, sym, subst, ◌∙◌, ℕ, ◌+◌, ◌-◌, ◌<◌, ◌≤◌, Bool, true, false, ◌&&◌, ◌||◌, eqb, List, [], ◌∷◌, ◌++◌, length, zero, suc, take, drop, get_or, replicate, append_assoc, append-nil, length-append, arith, inl, inr, ◌⊎◌}
+use Rattle.std.proofs.Common.{◌≡◌, refl, ap, sym, subst, ◌∙◌, ℕ, ◌<◌, ◌≤◌, Bool, true, false, ◌&&◌, ◌||◌, eqb, List, [], ◌∷◌, ◌++◌, length, zero, suc, get_or, replicate, append_assoc, append-nil, length-append, arith}
 use Rattle.std.specs.Prelude.{codes, nat_le}
 use Rattle.std.proofs.lemmas.Bool.{and_parts, and_from, or_left, or_from, false≢true, leb-true, le-leb, ne_eqb}
-use Rattle.std.proofs.lemmas.List.{replicate_more}
 use Rattle.class_desc.specs.declared.types.JType.{JType, out-JType, roll-JType, roll-out-JType}
 use Rattle.class_desc.specs.declared.types.JType.TheVariants as type
 use Rattle.class_desc.specs.declared.types.JPart.{JPart, out-JPart, roll-JPart, out-roll-JPart, roll-out-JPart}
 use Rattle.class_desc.specs.declared.types.JArg.{JArg}
 use Rattle.class_desc.specs.declared.types.JArg.TheOpen.{JType-F, JPart-F}
 use Rattle.class_desc.specs.Names.{is_among, is_class_name}
-use Rattle.class_desc.specs.Types.{type_text, part_text}
+use Rattle.class_desc.specs.Types.{type_text}
 use Rattle.class_desc.specs.Descriptor.{is_primitive, has_no_args, plain_part, is_plain_class, element_layer, is_element, field_layer, is_field_type}
 use Rattle.class_desc.proofs.Layers.{text_prim, text_named, text_array, text_rolled_part}
-use Rattle.descriptor_sig.specs.Parts.{BeginsOtherwise, class_named, Spelling, NameSpells, ElementSpells, FieldSpells, IsRead, IsStuck, as_left, AreAll, AreTooMany}
-use Rattle.descriptor_sig.proofs.ClassNames.{class_name_ends, names_apart, tail_of, opened}
+use Rattle.descriptor_sig.specs.Parts.{BeginsOtherwise, class_named, NameSpells, ElementSpells, FieldSpells, IsRead, IsStuck, as_left, AreAll, AreTooMany}
+use Rattle.descriptor_sig.proofs.ClassNames.{class_name_ends, names_apart}
 
 -- ---- what is left of a text begins as before
 

@@ -1,4 +1,4 @@
-use Rattle.std.proofs.Common.{◌≡◌, ◌∙◌, sym, arith, true, false}
+use Rattle.std.proofs.Common.{◌∙◌, sym, arith}
 use Rattle.descriptor_sig.proofs.ClassNames.{name_start, name_more_at, name_done_at, name_stuck_at, name_cut_short}
 use Rattle.descriptor_sig.proofs.descriptor_reader.Reader.class_name.Goals as goal
 use Rattle.descriptor_sig.proofs.descriptor_reader.Reader.class_name.Goals.{else-in_part-via-then-in_part+else-b-eq59, else-in_part-via-else-in_part}
