@@ -1,5 +1,5 @@
 -- Readings put together: what is known after a part was read, or after a reading failed.
-use Rattle.std.proofs.Common.{◌≡◌, refl, sym, ap, ◌∙◌, subst, ℕ, List, [], ◌∷◌, ◌++◌, Result, Ok, Err, append_assoc, append-nil, Bool, true, false}
+use Rattle.std.proofs.Common.{◌≡◌, refl, sym, ap, ◌∙◌, subst, ℕ, List, [], ◌∷◌, ◌++◌, Result, Ok, Err, append_assoc, append-nil, false}
 use Rattle.descriptor_sig.specs.declared.error.SigErr.{SigErr}
 use Rattle.std.proofs.lemmas.Bool.{false≢true, eq-eqb}
 use Rattle.descriptor_sig.specs.Standing.{Builds, Leads, Marked, begins_with}

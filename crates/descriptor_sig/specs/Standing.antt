@@ -1,7 +1,7 @@
 -- What is read where a part of a signature is known to stand (JVMS 4.7.9.1): a value's text is in front, and more behind it.
 -- Type arguments are nested no deeper than the limit.
 use Rattle.std.specs.Prelude.{◌≡◌, ℕ, ◌≤◌, ◌<◌, ◌^◌, ◌==◌, ◌&&◌, ◌||◌, not, Bool, true, false, List, [], ◌∷◌, ◌++◌, map, drop, replicate, codes, Option, Some, None, Result, Ok, Err}
-use Rattle.std.specs.List.{list_all, position_or_len, concat}
+use Rattle.std.specs.List.{list_all, position_or_len}
 use Rattle.class_desc.specs.declared.types.JType.{JType}
 use Rattle.class_desc.specs.declared.types.JPart.{JPart}
 use Rattle.class_desc.specs.declared.types.JArg.{JArg}

@@ -1,9 +1,9 @@
-use Rattle.std.proofs.Common.{◌≡◌, ◌∙◌, ap, sym, refl, length, [], ◌∷◌, ◌++◌, ◌+◌, arith}
+use Rattle.std.proofs.Common.{◌∙◌, ap, sym, refl, length, [], ◌∷◌, ◌++◌, ◌+◌, arith}
 use Rattle.class_desc.specs.declared.types.JType.TheVariants as type
 use Rattle.descriptor_sig.specs.Standing.{begins_with}
 use Rattle.std.proofs.lemmas.Result.{err_from_is_err_and}
 use Rattle.descriptor_sig.proofs.Leading.{leads_ok, leads_err, splits_ok, splits_err, first_done, one_more, one_fails, all_done}
-use Rattle.descriptor_sig.proofs.TypeSteps.{type_splits, arrayed_none, arrayed_some, no_element, prim_built, named_leads, var_leads}
+use Rattle.descriptor_sig.proofs.TypeSteps.{type_splits, arrayed_none, arrayed_some, named_leads, var_leads}
 use Rattle.descriptor_sig.proofs.PartSteps.{parts_split, part_next, parts_end, part_splits, part_of}
 use Rattle.descriptor_sig.proofs.ArgSteps.{any_built, extends_leads, super_leads, exact_leads, args_lead, no_args, too_deep, arg_next, args_end}
 use Rattle.descriptor_sig.proofs.builder.Builder.+build.Goals as goal

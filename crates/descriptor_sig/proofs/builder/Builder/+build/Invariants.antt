@@ -1,4 +1,4 @@
-use Rattle.std.proofs.Common.{◌≡◌, ◌≤◌, ◌<◌, ◌+◌, ◌*◌, ◌-◌, length}
+use Rattle.std.proofs.Common.{◌≤◌, ◌<◌, ◌+◌, ◌*◌, ◌-◌, length}
 use Rattle.descriptor_sig.specs.Standing.{Leads, PartsStand, ArgsStand}
 use Rattle.descriptor_sig.proofs.Leading.{behind}
 use Rattle.descriptor_sig.proofs.PartSteps.{PartsRow}
