@@ -12,10 +12,10 @@ use Rattle.class_desc.specs.Nesting.{type_levels, arg_levels}
 use Rattle.class_desc.proofs.Layers.{text_exact, text_extends, text_super, text_any, form_exact, form_extends, form_super, levels_exact, levels_extends, levels_super}
 use Rattle.descriptor_sig.specs.declared.error.SigErr.{SigErr}
 use Rattle.descriptor_sig.specs.declared.error.SigErr.TheVariants.{Memory}
-use Rattle.descriptor_sig.specs.Standing.{Builds, Leads, Shallow, Row, RowTo, begins_with, begins_among, TypeStands, ArgsStand, ArgStands}
+use Rattle.descriptor_sig.specs.Standing.{Builds, Shallow, Row, RowTo, begins_with, begins_among, TypeStands, ArgsStand, ArgStands}
 use Rattle.descriptor_sig.proofs.Bytes.{both, rest_of_cons}
 use Rattle.descriptor_sig.proofs.Cases.{ArgKind, is_exact, is_extends, is_super, is_any, arg_kind}
-use Rattle.descriptor_sig.proofs.Leading.{Splits, cons, behind}
+use Rattle.descriptor_sig.proofs.Leading.{Leads, Splits, cons, behind}
 use Rattle.descriptor_sig.proofs.Shallows.{shallow_left, shallow_right, shallow_tail, shallow_head}
 use Rattle.descriptor_sig.proofs.TypeSteps.{any_type, reference_front}
 

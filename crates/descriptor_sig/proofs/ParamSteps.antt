@@ -13,9 +13,9 @@ use Rattle.class_desc.specs.Types.{type_text, bound_text, param_text}
 use Rattle.class_desc.specs.Signature.{Production, AnyType, Reference, Element, is_type, are_types, allows_void, is_identifier, is_class_bound, is_param}
 use Rattle.class_desc.specs.Nesting.{top_levels, bound_levels, param_levels, flat}
 use Rattle.class_desc.proofs.Layers.{form_prim}
-use Rattle.descriptor_sig.specs.Standing.{Builds, Leads, Shallow, Row, RowTo, Marked, begins_with, begins_among, behind_name, is_before_type, is_plain_name, ends_types, NameStands, TypeStands, PartsStand, VariableStands, DimensionsStand, ArgsStand, TypesStand, MarkedStand, BoundStands, ParamStands, ParamsStand}
+use Rattle.descriptor_sig.specs.Standing.{Builds, Shallow, Row, RowTo, Marked, begins_with, begins_among, behind_name, is_before_type, is_plain_name, ends_types, NameStands, TypeStands, PartsStand, VariableStands, DimensionsStand, ArgsStand, TypesStand, MarkedStand, BoundStands, ParamStands, ParamsStand}
 use Rattle.descriptor_sig.proofs.Bytes.{both, rest_of_cons, name_place, identifier_is_plain}
-use Rattle.descriptor_sig.proofs.Leading.{Splits, cons, behind}
+use Rattle.descriptor_sig.proofs.Leading.{Leads, Splits, cons, behind}
 use Rattle.descriptor_sig.proofs.Shallows.{shallow_left, shallow_right, shallow_tail}
 use Rattle.descriptor_sig.proofs.TypeSteps.{any_type, type_first, type_unlike, TypeFirst, first_is, type_splits, element_kind, ElementKind, prim_stands, named_stands, var_stands, arrayed}
 use Rattle.descriptor_sig.proofs.PartSteps.{parts_split, part_splits}
@@ -52,9 +52,6 @@ type_goes_on t bytes more s = by (type_first 0 t bytes more s) (type_unlike 41 0
   by : TypeFirst bytes → begins_with 41 bytes ≡ false → ends_types bytes ≡ false
   by (first_is b tail f e) h = ap ends_types f ∙ (sym (ap (begins_with 41) f) ∙ h)
 
-pub types_begin : (bytes : List ℕ) (none : List JType) → none ≡ [] → Leads (behind none) TypesStand TypesStand bytes bytes
-types_begin bytes none is = record { leads = λ types more s. (types, ap (λ items. items ++ types) is, s) }
-
 pub types_next : (bytes : List ℕ) → ends_types bytes ≡ false → Splits cons TypesStand (TypeStands AnyType 0) TypesStand bytes bytes
 types_next bytes differs = record { splits = by } where
   by : (types : List JType) (more : List ℕ) → TypesStand types bytes more → (t : JType) × (later : List JType) × (middle : List ℕ) × (cons t later ≡ types) × TypeStands AnyType 0 t bytes middle × TypesStand later middle more
@@ -66,9 +63,6 @@ types_end bytes ends = record { gives = by } where
   by : (types : List JType) (more : List ℕ) → TypesStand types bytes more → ([] ≡ types) × (bytes ≡ more)
   by [] more s = (refl, s.row)
   by (t ∷ types) more s = let r = s.row in absurd (false≢true (sym (type_goes_on t bytes r.0 r.1) ∙ ends))
-
-pub marked_begin : (mark : ℕ) (bytes : List ℕ) (none : List JType) → none ≡ [] → Leads (behind none) (MarkedStand mark) (MarkedStand mark) bytes bytes
-marked_begin mark bytes none is = record { leads = λ types more s. (types, ap (λ items. items ++ types) is, s) }
 
 pub marked_next : (mark : ℕ) (bytes rest : List ℕ) → bytes ≡ mark ∷ rest → Splits cons (MarkedStand mark) (TypeStands AnyType 0) (MarkedStand mark) bytes rest
 marked_next mark bytes rest front = record { splits = by } where

@@ -12,10 +12,10 @@ use Rattle.class_desc.specs.Signature.{AnyResult, AnyType, Reference, Thrown, Cl
 use Rattle.class_desc.specs.Nesting.{top_levels, params_levels}
 use Rattle.class_desc.proofs.Layers.{text_void, form_prim, form_named, form_var, form_array}
 use Rattle.descriptor_sig.specs.declared.error.SigErr.{SigErr}
-use Rattle.descriptor_sig.specs.Standing.{Builds, Leads, Shallow, Takes, begins_with, ends_types, TypeStands, TypesStand, MarkedStand, ParamsStand, FormalsStand, SigStands}
+use Rattle.descriptor_sig.specs.Standing.{Builds, Shallow, Takes, begins_with, ends_types, TypeStands, TypesStand, MarkedStand, ParamsStand, FormalsStand, SigStands}
 use Rattle.descriptor_sig.proofs.Bytes.{both, rest_of_cons}
 use Rattle.descriptor_sig.proofs.Cases.{TypeKind, is_void, is_prim, is_named, is_var, is_array, type_kind}
-use Rattle.descriptor_sig.proofs.Leading.{Splits}
+use Rattle.descriptor_sig.proofs.Leading.{Leads, Splits}
 use Rattle.descriptor_sig.proofs.Shallows.{shallow_left, shallow_right, shallow_tail}
 use Rattle.descriptor_sig.proofs.TypeSteps.{any_type, type_unlike}
 use Rattle.descriptor_sig.proofs.ParamSteps.{types_row, marked_row}

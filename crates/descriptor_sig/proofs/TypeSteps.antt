@@ -14,10 +14,10 @@ use Rattle.class_desc.specs.Nesting.{type_levels, part_levels, parts_levels}
 use Rattle.class_desc.proofs.Layers.{text_prim, text_named, text_var, text_array, form_void, form_prim, form_named, form_var, form_array, levels_named, levels_array}
 use Rattle.descriptor_sig.specs.declared.error.SigErr.{SigErr}
 use Rattle.descriptor_sig.specs.declared.error.SigErr.TheVariants.{Memory}
-use Rattle.descriptor_sig.specs.Standing.{Builds, Leads, Shallow, begins_with, begins_among, DimensionsStand, TypeStands, PartsStand, VariableStands}
+use Rattle.descriptor_sig.specs.Standing.{Builds, Shallow, begins_with, begins_among, DimensionsStand, TypeStands, PartsStand, VariableStands}
 use Rattle.descriptor_sig.proofs.Bytes.{both, first_of_cons, rest_of_cons, identifier_is_plain}
 use Rattle.descriptor_sig.proofs.Cases.{TypeKind, is_void, is_prim, is_named, is_var, is_array, type_kind}
-use Rattle.descriptor_sig.proofs.Leading.{Splits}
+use Rattle.descriptor_sig.proofs.Leading.{Leads, Splits}
 use Rattle.descriptor_sig.proofs.Shallows.{shallow_left, shallow_right, shallow_tail}
 
 -- ---- texts of each kind, in front of more

@@ -179,9 +179,3 @@ pub record SigStands (place : Place) (sig : JSig) (bytes more : List ℕ) : Type
   pub spelled : SignatureSpells place sig bytes
   pub nested : nesting sig ≤ nesting_limit
   pub ends : more ≡ []
-
--- ---- steps between readings
-
--- whatever stands at these bytes is rebuilt from what stands at the rest
-pub record Leads {A B : Type 0} (rebuilt : A → B) (From : B → List ℕ → List ℕ → Type 0) (To : A → List ℕ → List ℕ → Type 0) (bytes rest : List ℕ) : Type 0 where
-  pub leads : (value : B) (more : List ℕ) → From value bytes more → (left : A) × (rebuilt left ≡ value) × To left rest more
