@@ -1,11 +1,12 @@
 -- Languages as expressions, and the expressions for what a byte leaves of them.
-use Rattle.std.proofs.Common.{◌≡◌, ◌↔◌, ◌⊎◌, inl, inr, refl, sym, ap, ◌∙◌, ℕ, zero, suc, ◌<◌, ◌≤◌, Bool, true, false, ◌&&◌, ◌||◌, ◌==◌, eq-eqb, eqb-true, List, [], ◌∷◌, ◌++◌, replicate}
+use Rattle.std.proofs.Common.{◌≡◌, ◌↔◌, ◌⊎◌, inl, inr, refl, ap, ℕ, zero, suc, ◌≤◌, Bool, true, false, ◌&&◌, ◌||◌, ◌==◌, eq-eqb, eqb-true, List, [], ◌∷◌, ◌++◌, replicate}
 use Rattle.std.proofs.lemmas.Bool.{false≢true}
 use Rattle.class_desc.specs.declared.types.JType.{JType}
 use Rattle.class_desc.specs.Types.{type_text}
 use Rattle.class_desc.specs.Descriptor.{is_primitive}
 use Rattle.class_desc.specs.Signature.{Production, Reference, Element, is_type, allows_void, allows_primitive, allows_variable, allows_array}
 use Rattle.signature_scan.specs.Machine.{is_name_byte}
+use Rattle.signature_scan.proofs.Conjunctions.{and_true, or_true}
 use Rattle.signature_scan.proofs.Languages.{same, and_then, turned, either, pair, swap, Cat, cats, Empty, cat_empty, cat_cons, cat_first, cat_last, cat_assoc, cat_or, Star, star_none, star_cons}
 
 pub data Expr : Type 0 where
@@ -187,14 +188,6 @@ EndIs e = Words e [] ↔ (can_end e ≡ true)
 
 abbrev pub AfterIs : Expr → Type 0
 AfterIs e = (b : ℕ) (w : List ℕ) → Words e (b ∷ w) ↔ AnyRow (after e b) w
-
-pub and_true : (a b : Bool) → ((a ≡ true) × (b ≡ true)) ↔ (a && b ≡ true)
-and_true true b = (λ p. p.1, λ e. (refl, e))
-and_true false b = (λ p. absurd (false≢true p.0), λ e. absurd (false≢true e))
-
-pub or_true : (a b : Bool) → ((a ≡ true) ⊎ (b ≡ true)) ↔ (a || b ≡ true)
-or_true true b = (λ s. refl, λ e. inl refl)
-or_true false b = (λ s. elim s as (λ s. b ≡ true) [ inl x ↦ absurd (false≢true x) | inr y ↦ y ], λ e. inr e)
 
 -- an item in front of others
 pub front_is : (e : Expr) (K : List ℕ → Type 0) (rest : List (List Expr)) (b : ℕ) (w : List ℕ) (es : List Expr) → EndIs e → AfterIs e → ((v : List ℕ) → K v ↔ Rows es v) → K (b ∷ w) ↔ AnyRow rest w

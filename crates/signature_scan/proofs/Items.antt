@@ -1,9 +1,9 @@
 -- Texts of things and of lists of things as languages.
-use Rattle.std.proofs.Common.{◌≡◌, ◌↔◌, refl, sym, ap, ◌∙◌, ℕ, zero, suc, Bool, true, false, ◌&&◌, List, [], ◌∷◌, ◌++◌, map}
+use Rattle.std.proofs.Common.{◌≡◌, ◌↔◌, refl, sym, ap, ◌∙◌, ℕ, zero, suc, Bool, true, ◌&&◌, List, [], ◌∷◌, ◌++◌, map}
 use Rattle.std.specs.List.{list_all, flat_map, concat}
-use Rattle.std.proofs.lemmas.Bool.{false≢true}
-use Rattle.signature_scan.proofs.Languages.{and_then, turned, Cat, Star, star_none, star_more, Times}
-use Rattle.signature_scan.proofs.Expressions.{Byte, Words, IsTextOf, and_true}
+use Rattle.signature_scan.proofs.Conjunctions.{and_true}
+use Rattle.signature_scan.proofs.Languages.{Cat, Star, star_more, Times}
+use Rattle.signature_scan.proofs.Expressions.{Byte, Words, IsTextOf}
 
 -- the same test and text in other words
 pub texts_as : {T : Type 0} (test test' : T → Bool) (text text' : T → List ℕ) → ((x : T) → test x ≡ test' x) → ((x : T) → text x ≡ text' x) → (w : List ℕ) → IsTextOf test text w ↔ IsTextOf test' text' w

@@ -1,8 +1,7 @@
 -- Each state goes on to some signature, and ends one exactly where it says so.
-use Rattle.std.proofs.Common.{◌≡◌, ◌↔◌, ◌⊎◌, inl, inr, refl, sym, ap, ◌∙◌, ℕ, zero, suc, ◌≤◌, Bool, true, false, ◌&&◌, ◌||◌, arith, List, [], ◌∷◌, ◌++◌}
+use Rattle.std.proofs.Common.{◌≡◌, ◌↔◌, inl, refl, ℕ, zero, suc, Bool, true, false, ◌&&◌, ◌||◌, arith, List, [], ◌∷◌, ◌++◌}
 use Rattle.std.proofs.lemmas.Bool.{false≢true}
 use Rattle.class_desc.specs.Signature.{Production, Element}
-use Rattle.signature_scan.specs.declared.place.SigPlace.{SigPlace}
 use Rattle.signature_scan.specs.declared.place.SigPlace.TheVariants.{ClassPlace, MethodPlace, FieldPlace}
 use Rattle.signature_scan.specs.declared.part.Part.{Part}
 use Rattle.signature_scan.specs.declared.part.Part.TheVariants as part
@@ -11,8 +10,9 @@ use Rattle.signature_scan.specs.declared.state.Around.TheVariants as around
 use Rattle.signature_scan.specs.declared.state.State.{State}
 use Rattle.signature_scan.specs.declared.state.State.TheVariants as state
 use Rattle.signature_scan.specs.Machine.{is_whole}
-use Rattle.signature_scan.proofs.Languages.{same, and_then, turned, either, pair, same_test, cat_empty, star_none}
-use Rattle.signature_scan.proofs.Expressions.{Expr, Byte, NameByte, Many, Maybe, Or, Both, Kind, Dims, Words, Rows, AnyRow, IsKind, names, slashes, arguments, inners, can_end, and_true, or_true}
+use Rattle.signature_scan.proofs.Conjunctions.{and_true, or_true}
+use Rattle.signature_scan.proofs.Languages.{and_then, either, pair, same_test, cat_empty, star_none}
+use Rattle.signature_scan.proofs.Expressions.{Expr, Byte, NameByte, Many, Maybe, Or, Both, Kind, Dims, Words, Rows, AnyRow, IsKind, names, arguments, can_end}
 use Rattle.signature_scan.proofs.TypeLaws.{ends, goes}
 use Rattle.signature_scan.proofs.States.{rows, part_row, beyond, outermost, parameter, body_row, start_row, colon_row, name_row}
 

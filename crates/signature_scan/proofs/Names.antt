@@ -6,8 +6,9 @@ use Rattle.std.proofs.lemmas.Bool.{false≢true}
 use Rattle.std.proofs.lemmas.List.Splits.{slice_split-cons_yes, slice_split-cons_no}
 use Rattle.class_desc.specs.Signature.{is_identifier, is_binary_name}
 use Rattle.signature_scan.specs.Machine.{is_name_byte}
-use Rattle.signature_scan.proofs.Languages.{same, and_then, turned, either, pair, swap, Cat, cats, Empty, cat_empty, cat_cons, cat_assoc, cat_or, Star, star_none, star_more, star_step, star_begins, only_right, only_left, known, same_test}
-use Rattle.signature_scan.proofs.Expressions.{Expr, Byte, NameByte, Many, Both, Words, IsNameByte, names, slashes, and_true}
+use Rattle.signature_scan.proofs.Conjunctions.{and_true}
+use Rattle.signature_scan.proofs.Languages.{same, and_then, turned, either, pair, Cat, cat_empty, cat_assoc, Star, star_none, star_more, star_step, star_begins, only_right, only_left, known, same_test}
+use Rattle.signature_scan.proofs.Expressions.{Byte, NameByte, Both, Words, IsNameByte, names, slashes}
 
 -- ---- a byte in front
 

@@ -1,5 +1,5 @@
 -- Signatures as languages: what may follow at the start of the scan.
-use Rattle.std.proofs.Common.{◌≡◌, ◌↔◌, ◌⊎◌, inl, inr, refl, sym, ap, ◌∙◌, ℕ, Bool, true, false, ◌&&◌, List, [], ◌∷◌, ◌++◌, Option, Some, None}
+use Rattle.std.proofs.Common.{◌≡◌, ◌↔◌, inl, inr, refl, ap, ◌∙◌, ℕ, true, List, [], ◌∷◌, ◌++◌, Option, Some, None}
 use Rattle.std.specs.Prelude.{codes}
 use Rattle.std.specs.List.{list_all, flat_map}
 use Rattle.std.proofs.lemmas.Bool.{false≢true}
@@ -13,31 +13,12 @@ use Rattle.signature_scan.specs.declared.place.SigPlace.{SigPlace}
 use Rattle.signature_scan.specs.declared.place.SigPlace.TheVariants.{ClassPlace, MethodPlace, FieldPlace}
 use Rattle.signature_scan.specs.Scanned.{place_of}
 use Rattle.signature_scan.specs.declared.state.State.TheVariants as state
-use Rattle.signature_scan.proofs.Languages.{same, and_then, turned, Cat, Star, stars}
-use Rattle.signature_scan.proofs.Expressions.{Expr, Byte, NameByte, Many, Maybe, Both, Kind, Words, Rows, AnyRow, IsTextOf, IsKind, names, one_row, row_one, and_true, parts_is}
-use Rattle.signature_scan.proofs.Names.{Identifier, identifier_is}
+use Rattle.signature_scan.proofs.Conjunctions.{and_true, three_true, four_true}
+use Rattle.signature_scan.proofs.Languages.{same, and_then, turned, Star}
+use Rattle.signature_scan.proofs.Expressions.{Expr, Byte, NameByte, Many, Maybe, Both, Kind, Words, Rows, AnyRow, IsTextOf, IsKind, names, one_row, row_one, parts_is}
+use Rattle.signature_scan.proofs.Names.{identifier_is}
 use Rattle.signature_scan.proofs.Items.{list_is, behind_byte}
 use Rattle.signature_scan.proofs.States.{bounds, parameter, parameters, throws, body_row, rows}
-
-both_of : (a b : Bool) → a && b ≡ true → (a ≡ true) × (b ≡ true)
-both_of a b = (and_true a b).1
-
-three_of : (a b c : Bool) → a && b && c ≡ true → (a ≡ true) × (b ≡ true) × (c ≡ true)
-three_of true true c e = (refl, refl, e)
-three_of true false c e = absurd (false≢true e)
-three_of false b c e = absurd (false≢true e)
-
-of_three : (a b c : Bool) → a ≡ true → b ≡ true → c ≡ true → a && b && c ≡ true
-of_three a b c p q r = ap (λ x. x && b && c) p ∙ ap (λ x. true && x && c) q ∙ r
-
-four_of : (a b c d : Bool) → a && b && c && d ≡ true → (a ≡ true) × (b ≡ true) × (c ≡ true) × (d ≡ true)
-four_of true true true d e = (refl, refl, refl, e)
-four_of true true false d e = absurd (false≢true e)
-four_of true false c d e = absurd (false≢true e)
-four_of false b c d e = absurd (false≢true e)
-
-of_four : (a b c d : Bool) → a ≡ true → b ≡ true → c ≡ true → d ≡ true → a && b && c && d ≡ true
-of_four a b c d p q r s = ap (λ x. x && b && c && d) p ∙ ap (λ x. true && x && c && d) q ∙ ap (λ x. true && true && x && d) r ∙ s
 
 -- ---- type parameters
 
@@ -62,7 +43,7 @@ parameter_as w = and_then (parts_is grouped w) (turned (parts_is parameter w))
 
 param_to : (w : List ℕ) (param : JParam) → is_param param ≡ true → w ≡ param_text param → Words grouped w
 param_to w param is e =
-    let p = three_of (is_identifier param.name) (is_class_bound param.class_bound) (are_types Reference param.interface_bounds) is in
+    let p = (three_true (is_identifier param.name) (is_class_bound param.class_bound) (are_types Reference param.interface_bounds)).1 is in
     let later = flat_map (λ bound. codes ":" ++ type_text bound) param.interface_bounds in
     record {
       front = param.name;
@@ -92,7 +73,7 @@ param_back w c =
     let param : JParam = record { name = c.front; class_bound = bound.item; interface_bounds = later.item } in
     record {
       item = param;
-      is = of_three (is_identifier c.front) (is_class_bound bound.item) (are_types Reference later.item) ((identifier_is c.front).1 c.first) bound.is later.is;
+      is = (three_true (is_identifier c.front) (is_class_bound bound.item) (are_types Reference later.item)).0 ((identifier_is c.front).1 c.first, bound.is, later.is);
       whole = c.whole ∙ ap (λ (v : List ℕ). c.front ++ v) (c.second.whole
           ∙ ap (λ (v : List ℕ). v ++ c.second.rest) c.second.first
           ∙ ap (λ (v : List ℕ). 58 ∷ v) (inside.whole ∙ ap (λ (v : List ℕ). v ++ inside.rest) bound.whole ∙ ap (λ (v : List ℕ). bound_text bound.item ++ v) later.whole));
@@ -107,7 +88,7 @@ later_params w = list_is is_param param_text (Words parameter) param_is w
 params_to : (w : List ℕ) (params : List JParam) → list_all is_param params ≡ true → w ≡ params_text params → Words parameters w
 params_to w [] is e = inl e
 params_to w (param ∷ params) is e =
-    let p = both_of (is_param param) (list_all is_param params) is in
+    let p = (and_true (is_param param) (list_all is_param params)).1 is in
     inr (record {
       front = 60 ∷ (param_text param ++ flat_map param_text params);
       rest = 62 ∷ [];
@@ -160,7 +141,7 @@ class_to : (w : List ℕ) (sig : JSig) → is_signature AtClass sig ≡ true →
 class_to w (OfMethod params formals ret thrown) is e = absurd (false≢true is)
 class_to w (OfField type) is e = absurd (false≢true is)
 class_to w (OfClass params super interfaces) is e =
-    let p = three_of (list_all is_param params) (is_type super ClassType) (are_types ClassType interfaces) is in
+    let p = (three_true (list_all is_param params) (is_type super ClassType) (are_types ClassType interfaces)).1 is in
     record {
       front = params_text params;
       rest = type_text super ++ flat_map type_text interfaces;
@@ -182,7 +163,7 @@ class_back w c =
     let interfaces = (class_types c.second.rest).1 ((row_one (Many (Kind ClassType)) c.second.rest).0 c.second.second) in (
       OfClass params.item super.item interfaces.item,
       record {
-        form = of_three (list_all is_param params.item) (is_type super.item ClassType) (are_types ClassType interfaces.item) params.is super.is interfaces.is;
+        form = (three_true (list_all is_param params.item) (is_type super.item ClassType) (are_types ClassType interfaces.item)).0 (params.is, super.is, interfaces.is);
         whole = c.whole ∙ ap (λ (v : List ℕ). v ++ c.rest) params.whole
             ∙ ap (λ (v : List ℕ). params_text params.item ++ v) (c.second.whole ∙ ap (λ (v : List ℕ). v ++ c.second.rest) super.whole ∙ ap (λ (v : List ℕ). type_text super.item ++ v) interfaces.whole);
       },
@@ -192,7 +173,7 @@ method_to : (w : List ℕ) (sig : JSig) → is_signature AtMethod sig ≡ true �
 method_to w (OfClass params super interfaces) is e = absurd (false≢true is)
 method_to w (OfField type) is e = absurd (false≢true is)
 method_to w (OfMethod params formals ret thrown) is e =
-    let p = four_of (list_all is_param params) (are_types AnyType formals) (is_type ret AnyResult) (are_types Thrown thrown) is in
+    let p = (four_true (list_all is_param params) (are_types AnyType formals) (is_type ret AnyResult) (are_types Thrown thrown)).1 is in
     let last = flat_map (λ thrown. codes "^" ++ type_text thrown) thrown in
     record {
       front = params_text params;
@@ -236,7 +217,7 @@ method_back w c =
     let thrown = (throws_is closed.second.rest).1 ((row_one throws closed.second.rest).0 closed.second.second) in (
       OfMethod params.item formals.item ret.item thrown.item,
       record {
-        form = of_four (list_all is_param params.item) (are_types AnyType formals.item) (is_type ret.item AnyResult) (are_types Thrown thrown.item) params.is formals.is ret.is thrown.is;
+        form = (four_true (list_all is_param params.item) (are_types AnyType formals.item) (is_type ret.item AnyResult) (are_types Thrown thrown.item)).0 (params.is, formals.is, ret.is, thrown.is);
         whole = c.whole ∙ ap (λ (v : List ℕ). v ++ c.rest) params.whole
             ∙ ap (λ (v : List ℕ). params_text params.item ++ v) (opened.whole ∙ ap (λ (v : List ℕ). v ++ opened.rest) opened.first
             ∙ ap (λ (v : List ℕ). 40 ∷ v) (opened.second.whole ∙ ap (λ (v : List ℕ). v ++ opened.second.rest) formals.whole

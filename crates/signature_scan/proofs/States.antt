@@ -1,7 +1,7 @@
 -- What each state of the machine stands for, and that each step keeps it.
-use Rattle.std.proofs.Common.{◌≡◌, refl, sym, ap, ◌∙◌, ℕ, zero, suc, ◌+◌, ◌<◌, Bool, true, false, List, [], ◌∷◌, ◌++◌, map, Option, Some, None, arith, inl, inr}
+use Rattle.std.proofs.Common.{◌≡◌, refl, ℕ, zero, suc, ◌<◌, Bool, true, false, List, [], ◌∷◌, ◌++◌, map, Option, Some, None, arith, inl, inr}
 use Rattle.std.proofs.lemmas.Bool.{cases_lt}
-use Rattle.class_desc.specs.Signature.{AnyResult, AnyType, Reference, Thrown, ClassType, Element}
+use Rattle.class_desc.specs.Signature.{AnyResult, AnyType, Reference, Thrown, ClassType}
 use Rattle.signature_scan.specs.declared.place.SigPlace.{SigPlace}
 use Rattle.signature_scan.specs.declared.place.SigPlace.TheVariants.{ClassPlace, MethodPlace, FieldPlace}
 use Rattle.signature_scan.specs.declared.part.Wanted.{Wanted}
@@ -12,8 +12,8 @@ use Rattle.signature_scan.specs.declared.state.Around.{Around}
 use Rattle.signature_scan.specs.declared.state.Around.TheVariants as around
 use Rattle.signature_scan.specs.declared.state.State.{State}
 use Rattle.signature_scan.specs.declared.state.State.TheVariants as state
-use Rattle.signature_scan.specs.Machine.{production_of, next, within, behind, behind_outermost, is_whole}
-use Rattle.signature_scan.proofs.Expressions.{Expr, Byte, NameByte, Many, Maybe, Or, Both, Kind, Dims, names, slashes, argument, arguments, inners, class_row, variable_row, derive, derive_all, can_end}
+use Rattle.signature_scan.specs.Machine.{production_of, next}
+use Rattle.signature_scan.proofs.Expressions.{Expr, Byte, NameByte, Many, Maybe, Both, Kind, Dims, names, slashes, argument, arguments, inners, class_row, variable_row, derive_all}
 
 abbrev pub bounds : Expr
 bounds = Many (Both (Byte 58) (Kind Reference))

@@ -1,20 +1,21 @@
 -- What is left behind a byte of each expression: the laws for types, and so for all.
-use Rattle.std.proofs.Common.{◌≡◌, ◌↔◌, ◌⊎◌, inl, inr, refl, sym, ap, ◌∙◌, subst, ℕ, zero, suc, ◌^◌, ◌<◌, ◌≤◌, Bool, true, false, ◌&&◌, ◌==◌, eqb-true, eq-eqb, List, [], ◌∷◌, ◌++◌, map, replicate, arith}
+use Rattle.std.proofs.Common.{◌≡◌, ◌↔◌, ◌⊎◌, inl, inr, refl, sym, ap, ◌∙◌, subst, ℕ, zero, suc, ◌^◌, ◌<◌, ◌≤◌, Bool, true, ◌&&◌, ◌==◌, eqb-true, eq-eqb, List, [], ◌∷◌, ◌++◌, map, replicate, arith}
 use Rattle.std.specs.Prelude.{codes, nat_le, nat_lt}
 use Rattle.std.proofs.lemmas.Bool.{false≢true, ltb-true, leb-true, lt-ltb, le-leb}
 use Rattle.class_desc.specs.declared.types.JType.{JType, roll-JType, out-JType, roll-out-JType}
 use Rattle.class_desc.specs.declared.types.JType.TheVariants as type
 use Rattle.class_desc.specs.declared.types.JPart.{JPart}
 use Rattle.class_desc.specs.declared.types.JArg.{JArg}
-use Rattle.class_desc.specs.declared.types.JArg.TheOpen.{JType-F, JPart-F, JArg-F}
+use Rattle.class_desc.specs.declared.types.JArg.TheOpen.{JType-F}
 use Rattle.class_desc.specs.Types.{type_text, part_text, parts_text}
 use Rattle.class_desc.specs.Descriptor.{is_primitive}
-use Rattle.class_desc.specs.Signature.{Production, Reference, Element, is_type, is_part, are_parts, is_identifier, allows_void, allows_primitive, allows_variable, allows_array}
+use Rattle.class_desc.specs.Signature.{Production, Element, is_type, is_identifier, allows_void, allows_primitive, allows_variable, allows_array}
 use Rattle.class_desc.proofs.Layers as layers
-use Rattle.signature_scan.proofs.Languages.{same, and_then, turned, either, pair, Cat, cats, cat_to, Empty}
-use Rattle.signature_scan.proofs.Expressions.{Expr, Byte, NameByte, Many, Maybe, Or, Both, Kind, Dims, Words, Rows, AnyRow, IsTextOf, IsKind, IsElement, names, slashes, arguments, inners, class_row, variable_row, only, after, kind_after, one_fewer, can_end, any_append, only_is, one_row, row_one, and_true, EndIs, AfterIs, parts_is, byte_after, name_byte_after, maybe_after, or_after, both_after, many_after, byte_end, name_byte_end, maybe_end, or_end, both_end, many_end, derive_all, derive_all_is}
-use Rattle.signature_scan.proofs.Names.{Identifier, identifier_is}
-use Rattle.signature_scan.proofs.Types.{ClassParts, class_to, class_back}
+use Rattle.signature_scan.proofs.Conjunctions.{and_true, four_true}
+use Rattle.signature_scan.proofs.Languages.{same, and_then, turned, either, pair, Empty}
+use Rattle.signature_scan.proofs.Expressions.{Expr, Byte, NameByte, Many, Maybe, Or, Both, Kind, Dims, Words, Rows, AnyRow, IsKind, IsElement, names, slashes, arguments, inners, class_row, variable_row, only, kind_after, one_fewer, any_append, only_is, one_row, row_one, EndIs, AfterIs, parts_is, byte_after, name_byte_after, maybe_after, or_after, both_after, many_after, byte_end, name_byte_end, maybe_end, or_end, both_end, many_end, derive_all, derive_all_is}
+use Rattle.signature_scan.proofs.Names.{identifier_is}
+use Rattle.signature_scan.proofs.Types.{class_to, class_back}
 
 -- ---- the alternatives behind the first byte of a type
 
@@ -101,18 +102,9 @@ var_to at b w name is e =
       }),
     ))
 
-all_four : (a b c d : Bool) → a && b && c && d ≡ true → (a ≡ true) × (b ≡ true) × (c ≡ true) × (d ≡ true)
-all_four true true true d e = (refl, refl, refl, e)
-all_four true true false d e = absurd (false≢true e)
-all_four true false c d e = absurd (false≢true e)
-all_four false b c d e = absurd (false≢true e)
-
-four_all : (a b c d : Bool) → a ≡ true → b ≡ true → c ≡ true → d ≡ true → a && b && c && d ≡ true
-four_all a b c d p q r s = ap (λ x. x && b && c && d) p ∙ ap (λ x. true && x && c && d) q ∙ ap (λ x. true && true && x && d) r ∙ s
-
 array_to : (at : Production) (b : ℕ) (w : List ℕ) (element : JType) (dims : ℕ) → is_type (type.Array element dims) at ≡ true → b ∷ w ≡ type_text (type.Array element dims) → Alternatives at b w
 array_to at b w element dims is e =
-    let p = all_four (allows_array at) (nat_le 1 dims) (nat_lt dims (2 ^ 32)) (is_type element Element) (sym (layers.form_array element dims at) ∙ is) in
+    let p = (four_true (allows_array at) (nat_le 1 dims) (nat_lt dims (2 ^ 32)) (is_type element Element)).1 (sym (layers.form_array element dims at) ∙ is) in
     by dims (leb-true 1 dims p.1) (ltb-true dims (2 ^ 32) p.2) (e ∙ layers.text_array element dims) p.0 p.3
   where
     by : (dims : ℕ) → 1 ≤ dims → dims < 2 ^ 32 → b ∷ w ≡ replicate dims 91 ++ type_text element → allows_array at ≡ true → is_type element Element ≡ true → Alternatives at b w
@@ -163,8 +155,8 @@ type_back at b w (inr (inr (inl p))) =
     let small : x.dims ≤ 4294967294 = x.within in
     record {
       item = type.Array x.type (suc x.dims);
-      is = layers.form_array x.type (suc x.dims) at ∙ four_all (allows_array at) (nat_le 1 (suc x.dims)) (nat_lt (suc x.dims) (2 ^ 32)) (is_type x.type Element)
-          tests.1 (le-leb 1 (suc x.dims) (omega arith)) (lt-ltb (suc x.dims) (2 ^ 32) (omega arith)) x.is;
+      is = layers.form_array x.type (suc x.dims) at ∙ (four_true (allows_array at) (nat_le 1 (suc x.dims)) (nat_lt (suc x.dims) (2 ^ 32)) (is_type x.type Element)).0
+          (tests.1, le-leb 1 (suc x.dims) (omega arith), lt-ltb (suc x.dims) (2 ^ 32) (omega arith), x.is);
       whole = ap (λ (d : ℕ). d ∷ w) (eqb-true b 91 tests.0) ∙ ap (λ (v : List ℕ). 91 ∷ v) x.text ∙ sym (layers.text_array x.type (suc x.dims));
     }
 type_back at b w (inr (inr (inr (inl p)))) =
@@ -226,7 +218,7 @@ empty_text t (JType-F.Named parts) r at is e = let f = sym (layers.text_named pa
 empty_text t (JType-F.Var name) r at is e = let f = sym (layers.text_var name) ∙ ap type_text (sym (type.rolls-Var name) ∙ r) ∙ e in absurd (cc)
 empty_text t (JType-F.Array element dims) r at is e =
     let v = sym r ∙ type.rolls-Array element dims in
-    let p = all_four (allows_array at) (nat_le 1 dims) (nat_lt dims (2 ^ 32)) (is_type element Element) (sym (layers.form_array element dims at) ∙ ap (λ t. is_type t at) (sym v) ∙ is) in
+    let p = (four_true (allows_array at) (nat_le 1 dims) (nat_lt dims (2 ^ 32)) (is_type element Element)).1 (sym (layers.form_array element dims at) ∙ ap (λ t. is_type t at) (sym v) ∙ is) in
     by dims (leb-true 1 dims p.1) (sym (layers.text_array element dims) ∙ ap type_text (sym v) ∙ e)
   where
     by : (dims : ℕ) → 1 ≤ dims → replicate dims 91 ++ type_text element ≡ [] → ⊥

@@ -1,20 +1,19 @@
 -- Types as languages: what stands in a type behind its first byte.
-use Rattle.std.proofs.Common.{◌≡◌, ◌↔◌, ◌⊎◌, inl, inr, refl, sym, ap, ◌∙◌, subst, ℕ, zero, suc, ◌^◌, ◌<◌, ◌≤◌, Bool, true, false, ◌&&◌, ◌==◌, eqb-true, eq-eqb, List, [], ◌∷◌, ◌++◌, map, replicate, arith}
-use Rattle.std.specs.Prelude.{codes, nat_le, nat_lt}
+use Rattle.std.proofs.Common.{◌≡◌, ◌↔◌, inl, inr, refl, sym, ap, ◌∙◌, ℕ, Bool, true, List, [], ◌∷◌, ◌++◌, map}
+use Rattle.std.specs.Prelude.{codes}
 use Rattle.std.specs.List.{list_all, flat_map, concat}
 use Rattle.std.proofs.lemmas.Bool.{false≢true}
-use Rattle.class_desc.specs.declared.types.JType.{JType, roll-JType, out-JType, roll-out-JType}
-use Rattle.class_desc.specs.declared.types.JType.TheVariants as type
+use Rattle.class_desc.specs.declared.types.JType.{JType}
 use Rattle.class_desc.specs.declared.types.JPart.{JPart, roll-JPart, out-JPart}
 use Rattle.class_desc.specs.declared.types.JArg.{JArg, roll-JArg, out-JArg, roll-out-JArg}
 use Rattle.class_desc.specs.declared.types.JArg.TheVariants as arg
-use Rattle.class_desc.specs.declared.types.JArg.TheOpen.{JType-F, JPart-F, JArg-F}
+use Rattle.class_desc.specs.declared.types.JArg.TheOpen.{JPart-F, JArg-F}
 use Rattle.class_desc.specs.Types.{type_text, part_text, arg_text, parts_text, args_text}
-use Rattle.class_desc.specs.Descriptor.{is_primitive}
-use Rattle.class_desc.specs.Signature.{Production, Reference, Element, is_type, is_part, is_arg, are_parts, is_identifier, is_binary_name, allows_void, allows_primitive, allows_variable, allows_array}
+use Rattle.class_desc.specs.Signature.{Reference, is_part, is_arg, are_parts, is_identifier, is_binary_name}
 use Rattle.class_desc.proofs.Layers as layers
-use Rattle.signature_scan.proofs.Languages.{same, and_then, turned, either, pair, Cat, cats, Empty, cat_assoc, Star, star_none, stars}
-use Rattle.signature_scan.proofs.Expressions.{Expr, Byte, NameByte, Many, Maybe, Or, Both, Kind, Dims, Words, Rows, AnyRow, IsTextOf, IsKind, IsElement, IsNameByte, names, slashes, argument, arguments, inners, class_row, variable_row, only, kind_after, one_fewer, can_end, any_append, only_is, one_row, row_one, and_true, EndIs, AfterIs, parts_is}
+use Rattle.signature_scan.proofs.Conjunctions.{and_true}
+use Rattle.signature_scan.proofs.Languages.{and_then, turned, Cat, Star, stars}
+use Rattle.signature_scan.proofs.Expressions.{Expr, Byte, NameByte, Maybe, Or, Both, Words, IsTextOf, IsKind, names, argument, arguments, inners, parts_is}
 use Rattle.signature_scan.proofs.Names.{Identifier, identifier_is, BinaryName, binary_name_is}
 use Rattle.signature_scan.proofs.Items.{texts_as, list_is, behind_byte, all_map, flat_map-map, concat-map}
 

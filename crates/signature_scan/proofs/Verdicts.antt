@@ -1,28 +1,28 @@
 -- The machine's verdict on a text is the right one.
-use Rattle.std.proofs.Common.{◌≡◌, ◌↔◌, ◌⊎◌, inl, inr, refl, sym, ap, ◌∙◌, subst, ℕ, zero, suc, ◌+◌, ◌<◌, ◌≤◌, Bool, true, false, List, [], ◌∷◌, ◌++◌, length, take, get_or, append_assoc, length-append, drop, drop-cons, add-one, Option, Some, None, arith}
+use Rattle.std.proofs.Common.{◌≡◌, ◌↔◌, inl, inr, refl, sym, ap, ◌∙◌, subst, ℕ, zero, suc, ◌+◌, ◌<◌, ◌≤◌, Bool, true, false, List, [], ◌∷◌, ◌++◌, length, take, get_or, append_assoc, length-append, drop, drop-cons, add-one, Option, Some, None, arith}
 use Rattle.std.specs.List.{position_or_len}
 use Rattle.std.proofs.lemmas.Bool.{cases_lt, false≢true}
 use Rattle.std.proofs.lemmas.List.{take_at, append-nil, drop_all}
 use Rattle.class_desc.specs.declared.types.JSig.{JSig}
-use Rattle.class_desc.specs.Types.{signature_text}
-use Rattle.class_desc.specs.Signature.{Place, SignatureSpells}
-use Rattle.class_desc.specs.Spelling.{Begins, IsLongestBeginning}
-use Rattle.class_desc.specs.Nesting.{greatest, levels, nesting, opens_at}
+use Rattle.class_desc.specs.Signature.{SignatureSpells}
+use Rattle.class_desc.specs.Spelling.{Begins}
+use Rattle.class_desc.specs.Nesting.{greatest, levels}
 use Rattle.class_desc.proofs.Levels.{text_levels, levels_by_text}
 use Rattle.signature_scan.specs.declared.place.SigPlace.{SigPlace}
 use Rattle.signature_scan.specs.declared.state.State.{State}
 use Rattle.signature_scan.specs.declared.state.State.TheVariants as state
 use Rattle.signature_scan.specs.declared.verdict.Verdict.{Verdict}
 use Rattle.signature_scan.specs.declared.verdict.Verdict.TheVariants as verdict
-use Rattle.signature_scan.specs.Scanned.{Scanned, IsFine, IsBad, IsTooDeep, place_of}
-use Rattle.signature_scan.specs.Machine.{next, run, go_on, deeper, end_verdict, whole_verdict, is_whole, depth_of}
+use Rattle.signature_scan.specs.Scanned.{Scanned, IsBad, place_of}
+use Rattle.signature_scan.specs.Machine.{next, deeper, is_whole, depth_of}
 use Rattle.signature_scan.proofs.Languages.{and_then, turned}
 use Rattle.signature_scan.proofs.Expressions.{AnyRow, derive_all}
+use Rattle.signature_scan.proofs.Running.{run, go_on, end_verdict, whole_verdict}
 use Rattle.signature_scan.proofs.States.{rows, rows_if, next_rows}
 use Rattle.signature_scan.proofs.TypeLaws.{step_is}
 use Rattle.signature_scan.proofs.Signatures.{Spelled, start_is}
 use Rattle.signature_scan.proofs.Lives.{lives, whole_is}
-use Rattle.signature_scan.proofs.Depths.{levels_from, level_at, Next, next_told, levels_step, levels_end, is_deep, first_deep, deeper_is, still_shallow, none_deep, some_deep}
+use Rattle.signature_scan.proofs.Depths.{levels_from, level_at, next_told, levels_step, levels_end, is_deep, first_deep, deeper_is, still_shallow, none_deep, some_deep}
 
 -- each is a byte
 abbrev pub AreBytes : List ℕ → Type 0

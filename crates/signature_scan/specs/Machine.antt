@@ -1,5 +1,5 @@
 -- The machine that goes over a text byte by byte. Only contracts of private functions cite it.
-use Rattle.std.specs.Prelude.{ℕ, zero, suc, ◌+◌, ◌-◌, ◌==◌, List, [], ◌∷◌, Bool, true, false, not, ◌&&◌, ◌||◌, Option, Some, None, codes, nat_lt, if◌then◌else◌}
+use Rattle.std.specs.Prelude.{ℕ, zero, suc, ◌==◌, Bool, true, false, not, ◌&&◌, ◌||◌, Option, Some, None, codes, nat_lt, if◌then◌else◌}
 use Rattle.class_desc.specs.Names.{is_among}
 use Rattle.class_desc.specs.Descriptor.{is_primitive}
 use Rattle.class_desc.specs.Signature.{Production, AnyResult, AnyType, Reference, Thrown, ClassType, Element, allows_void, allows_primitive, allows_variable, allows_array}
@@ -13,8 +13,6 @@ use Rattle.signature_scan.specs.declared.state.Around.{Around}
 use Rattle.signature_scan.specs.declared.state.Around.TheVariants as around
 use Rattle.signature_scan.specs.declared.state.State.{State}
 use Rattle.signature_scan.specs.declared.state.State.TheVariants as state
-use Rattle.signature_scan.specs.declared.verdict.Verdict.{Verdict}
-use Rattle.signature_scan.specs.declared.verdict.Verdict.TheVariants as verdict
 
 abbrev pub production_of : Wanted → Production
 production_of wanted.AnyResult = AnyResult
@@ -189,24 +187,7 @@ depth_of state.Parenthesis = 0
 depth_of (state.Behind a depth) = depth
 depth_of (state.Within p a depth) = depth
 
--- where type arguments were first nested too deep, once this state is reached by the byte at this place
+-- where type arguments were first nested too deep, once the byte at this place has led to this state
 abbrev pub deeper : Option ℕ → State → ℕ → Option ℕ
 deeper None s at = if nat_lt 64 (depth_of s) then Some at else None
 deeper (Some first) s at = Some first
-
-abbrev pub whole_verdict : Option ℕ → Verdict
-whole_verdict None = verdict.Fine
-whole_verdict (Some at) = verdict.TooDeep at
-
-abbrev pub end_verdict : Bool → Option ℕ → ℕ → Verdict
-end_verdict true deep at = whole_verdict deep
-end_verdict false deep at = verdict.BadText at
-
-abbrev pub go_on : Option State → (State → Verdict) → ℕ → Verdict
-go_on None further at = verdict.BadText at
-go_on (Some s) further at = further s
-
--- the verdict on a text of which these bytes are left at this place
-abbrev pub run : State → Option ℕ → ℕ → List ℕ → Verdict
-run s deep at [] = end_verdict (is_whole s) deep at
-run s deep at (b ∷ bytes) = go_on (next s b) (λ next. run next (deeper deep next at) (at + 1) bytes) at

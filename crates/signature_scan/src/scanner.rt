@@ -9,7 +9,8 @@ use crate::verdict::Verdict;
 /// How deep type arguments may be nested.
 const NESTING_LIMIT: u32 = 64;
 
-/// Looks at a whole text.
+/// Whether the text is a signature at the place, in the grammar of JVMS 4.7.9.1. One pass over its bytes, without
+/// recursion and without memory. A number of dimensions is one of 32 bits.
 pub fn scan(text: &[u8], place: SigPlace) -> Verdict
     requires { length text.now < 2 ^ 32 }
     ensures { Scanned (place_of place) text.now result }

@@ -63,10 +63,10 @@ const BAD: [(SigPlace, &str, u32); 35] = [
 #[test]
 fn tells_signatures_from_other_texts(rt: HostRuntime) -> Result<(), Fail> {
     for (place, text) in &FINE {
-        assert_eq!(rt; scan(text.as_bytes(), *place), Verdict::Fine);
+        expect(&rt, text, *place, Verdict::Fine);
     }
     for (place, text, at) in &BAD {
-        assert_eq!(rt; scan(text.as_bytes(), *place), Verdict::BadText { at: *at });
+        expect(&rt, text, *place, Verdict::BadText { at: *at });
     }
     Ok(())
 }
@@ -87,84 +87,52 @@ fn wants_more_behind_each_front(rt: HostRuntime) -> Result<(), Fail> {
     Ok(())
 }
 
-/// Type arguments nested so deep, in a text that begins and ends so.
+/// A text with type arguments nested so deep.
 fn nested(
     alloc: Global,
     front: &str,
     opening: &str,
     depth: u32,
-    closing: &str,
     end: &str,
 ) -> Result<String, AllocError> {
-    let mut text = String::new(alloc);
-    text.push_str(front)?;
+    let mut text = String::from_str(alloc, front)?;
     for _ in 0..depth {
         text.push_str(opening)?;
     }
     text.push_str("*")?;
     for _ in 0..depth {
-        text.push_str(closing)?;
+        text.push_str(">;")?;
     }
     text.push_str(end)?;
     Ok(text)
 }
 
-fn expect(rt: &impl Abort, text: String, place: SigPlace, verdict: Verdict) {
-    if text.len() < 1_000_000 {
-        assert_eq!(rt; scan(text.as_str().as_bytes(), place), verdict);
-    }
+fn expect(rt: &impl Abort, text: &str, place: SigPlace, verdict: Verdict) {
+    assert!(rt; text.len() < 1_000_000);
+    assert_eq!(rt; scan(text.as_bytes(), place), verdict);
 }
+
+/// What stands in front, for each level and behind, and where the 65th level opens.
+const NESTED: [(SigPlace, &str, &str, &str, u32); 5] = [
+    (FieldPlace, "", "LA<", "", 194),
+    (ClassPlace, "<T:", "LA<", ">LA;", 197),
+    (ClassPlace, "<T::", "[[LA<", ">LA;", 328),
+    (FieldPlace, "", "LA<*>.B<", "", 514),
+    (MethodPlace, "<T:TT;>(LA<*>;)V^", "LA<*-LB;", "", 531),
+];
 
 #[test]
 fn allows_64_levels_of_type_arguments(rt: HostRuntime) -> Result<(), Fail> {
     let alloc = rt.alloc();
-    expect(
-        &rt,
-        nested(alloc, "", "LA<", 64, ">;", "")?,
-        FieldPlace,
-        Verdict::Fine,
-    );
-    expect(
-        &rt,
-        nested(alloc, "", "LA<", 65, ">;", "")?,
-        FieldPlace,
-        Verdict::TooDeep { at: 194 },
-    );
-    expect(
-        &rt,
-        nested(alloc, "", "LA<", 70, ">;", "")?,
-        FieldPlace,
-        Verdict::TooDeep { at: 194 },
-    );
-    expect(
-        &rt,
-        nested(alloc, "<T:", "LA<", 64, ">;", ">LA;")?,
-        ClassPlace,
-        Verdict::Fine,
-    );
-    expect(
-        &rt,
-        nested(alloc, "<T:", "LA<", 65, ">;", ">LA;")?,
-        ClassPlace,
-        Verdict::TooDeep { at: 197 },
-    );
-    expect(
-        &rt,
-        nested(alloc, "", "LA<*>.B<", 64, ">;", "")?,
-        FieldPlace,
-        Verdict::Fine,
-    );
-    expect(
-        &rt,
-        nested(alloc, "", "LA<*>.B<", 65, ">;", "")?,
-        FieldPlace,
-        Verdict::TooDeep { at: 514 },
-    );
-    expect(
-        &rt,
-        nested(alloc, "", "LA<", 65, ">;", "!")?,
-        FieldPlace,
-        Verdict::BadText { at: 326 },
-    );
+    for (place, front, opening, end, at) in &NESTED {
+        let fine = nested(alloc, front, opening, 64, end)?;
+        expect(&rt, fine.as_str(), *place, Verdict::Fine);
+        let deep = nested(alloc, front, opening, 65, end)?;
+        expect(&rt, deep.as_str(), *place, Verdict::TooDeep { at: *at });
+        let deeper = nested(alloc, front, opening, 70, end)?;
+        expect(&rt, deeper.as_str(), *place, Verdict::TooDeep { at: *at });
+    }
+    let bad = nested(alloc, "", "LA<", 65, "!")?;
+    expect(&rt, bad.as_str(), FieldPlace, Verdict::BadText { at: 326 });
     Ok(())
 }

@@ -1,6 +1,6 @@
-use Rattle.std.proofs.Common.{◌≡◌, ◌∙◌, sym, ap, arith, length, true, false, None, Some}
+use Rattle.std.proofs.Common.{◌≡◌, ◌∙◌, sym, ap, arith, length, true, false}
 use Rattle.signature_scan.specs.declared.verdict.Verdict.TheVariants as verdict
-use Rattle.signature_scan.specs.Machine.{whole_verdict}
+use Rattle.signature_scan.proofs.Running.{whole_verdict}
 use Rattle.signature_scan.proofs.Depths.{depth_rises}
 use Rattle.signature_scan.proofs.Verdicts.{run_more, run_stops, tells, tells_end}
 use Rattle.signature_scan.proofs.scanner.scan.Goals as goal

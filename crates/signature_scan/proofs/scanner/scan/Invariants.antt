@@ -1,6 +1,7 @@
 use Rattle.std.proofs.Common.{◌≡◌, ◌≤◌, drop, None}
 use Rattle.signature_scan.specs.declared.state.State.TheVariants as state
-use Rattle.signature_scan.specs.Machine.{run, depth_of}
+use Rattle.signature_scan.specs.Machine.{depth_of}
+use Rattle.signature_scan.proofs.Running.{run}
 use Rattle.signature_scan.proofs.scanner.scan.Given as goal
 
 -- the rest of the text gives the verdict, and no more type arguments are open than bytes were read
