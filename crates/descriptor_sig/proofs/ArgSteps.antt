@@ -1,21 +1,21 @@
 -- What stands where type arguments are read.
-use Rattle.std.proofs.Common.{◌≡◌, ◌⊎◌, refl, sym, ap, ◌∙◌, subst, ℕ, ◌+◌, ◌<◌, ◌≤◌, ◌&&◌, ◌||◌, ◌==◌, Bool, true, false, List, [], ◌∷◌, ◌++◌, map, max, Result, Ok, Err, arith, append_assoc, append-nil}
+use Rattle.std.proofs.Common.{◌≡◌, refl, sym, ap, ◌∙◌, subst, ℕ, ◌+◌, ◌≤◌, ◌||◌, ◌==◌, Bool, true, false, List, [], ◌∷◌, ◌++◌, map, Ok, Err, arith, append_assoc}
 use Rattle.std.specs.Prelude.{codes}
 use Rattle.std.specs.List.{list_all, flat_map, concat}
 use Rattle.std.proofs.lemmas.Bool.{false≢true, eqb-true}
 use Rattle.class_desc.specs.declared.types.JType.{JType}
 use Rattle.class_desc.specs.declared.types.JArg.{JArg}
 use Rattle.class_desc.specs.declared.types.JArg.TheVariants as arg
-use Rattle.class_desc.specs.Types.{type_text, arg_text, args_text}
-use Rattle.class_desc.specs.Signature.{is_type, is_arg, Reference, AnyType}
-use Rattle.class_desc.specs.Nesting.{Levels, type_levels, arg_levels, args_levels, greatest}
+use Rattle.class_desc.specs.Types.{type_text, arg_text}
+use Rattle.class_desc.specs.Signature.{is_arg, Reference, AnyType}
+use Rattle.class_desc.specs.Nesting.{type_levels, arg_levels}
 use Rattle.class_desc.proofs.Layers.{text_exact, text_extends, text_super, text_any, form_exact, form_extends, form_super, levels_exact, levels_extends, levels_super}
 use Rattle.descriptor_sig.specs.declared.error.SigErr.{SigErr}
 use Rattle.descriptor_sig.specs.declared.error.SigErr.TheVariants.{Memory}
-use Rattle.descriptor_sig.specs.Standing.{Builds, Leads, Shallow, Row, RowTo, begins_with, begins_among, TypeStands, ArgsStand, ArgStands}
-use Rattle.descriptor_sig.proofs.Bytes.{both, first_of_cons, rest_of_cons}
+use Rattle.descriptor_sig.specs.Standing.{Builds, Shallow, Row, RowTo, begins_with, begins_among, TypeStands, ArgsStand, ArgStands}
+use Rattle.descriptor_sig.proofs.Bytes.{both, rest_of_cons}
 use Rattle.descriptor_sig.proofs.Cases.{ArgKind, is_exact, is_extends, is_super, is_any, arg_kind}
-use Rattle.descriptor_sig.proofs.Leading.{Splits, cons, behind}
+use Rattle.descriptor_sig.proofs.Leading.{Leads, Splits, cons, behind}
 use Rattle.descriptor_sig.proofs.Shallows.{shallow_left, shallow_right, shallow_tail, shallow_head}
 use Rattle.descriptor_sig.proofs.TypeSteps.{any_type, reference_front}
 

@@ -1,5 +1,5 @@
 -- Each type, part and argument is one of its variants.
-use Rattle.std.proofs.Common.{◌≡◌, refl, sym, ap, ◌∙◌, ℕ, List}
+use Rattle.std.proofs.Common.{◌≡◌, sym, ◌∙◌, ℕ, List}
 use Rattle.class_desc.specs.declared.types.JType.{JType, out-JType, roll-JType, roll-out-JType}
 use Rattle.class_desc.specs.declared.types.JArg.{JArg, out-JArg, roll-JArg, roll-out-JArg}
 use Rattle.class_desc.specs.declared.types.JPart.{JPart}

@@ -1,9 +1,13 @@
 -- Readings put together: what is known after a part was read, or after a reading failed.
-use Rattle.std.proofs.Common.{◌≡◌, refl, sym, ap, ◌∙◌, subst, ℕ, List, [], ◌∷◌, ◌++◌, Result, Ok, Err, append_assoc, append-nil, Bool, true, false}
+use Rattle.std.proofs.Common.{◌≡◌, refl, sym, ap, ◌∙◌, subst, ℕ, List, [], ◌∷◌, ◌++◌, Result, Ok, Err, append_assoc, append-nil, false}
 use Rattle.descriptor_sig.specs.declared.error.SigErr.{SigErr}
 use Rattle.std.proofs.lemmas.Bool.{false≢true, eq-eqb}
-use Rattle.descriptor_sig.specs.Standing.{Builds, Leads, Marked, begins_with}
+use Rattle.descriptor_sig.specs.Standing.{Builds, Marked, begins_with}
 use Rattle.descriptor_sig.proofs.Bytes.{rest_of_cons}
+
+-- whatever stands at these bytes is rebuilt from what stands at the rest
+pub record Leads {A B : Type 0} (rebuilt : A → B) (From : B → List ℕ → List ℕ → Type 0) (To : A → List ℕ → List ℕ → Type 0) (bytes rest : List ℕ) : Type 0 where
+  pub leads : (value : B) (more : List ℕ) → From value bytes more → (left : A) × (rebuilt left ≡ value) × To left rest more
 
 -- what stands at the bytes is joined from what stands first at the rest, and what stands behind that
 pub record Splits {A B C : Type 0} (joined : A → B → C) (From : C → List ℕ → List ℕ → Type 0) (First : A → List ℕ → List ℕ → Type 0) (Second : B → List ℕ → List ℕ → Type 0) (bytes rest : List ℕ) : Type 0 where

@@ -1,28 +1,21 @@
 -- What stands where lists of types and type parameters are read.
-use Rattle.std.proofs.Common.{◌≡◌, refl, sym, ap, ◌∙◌, subst, ℕ, ◌+◌, ◌<◌, ◌≤◌, ◌==◌, ◌&&◌, ◌||◌, not, Bool, true, false, List, [], ◌∷◌, ◌++◌, map, drop, length, Option, Some, None, Result, Ok, Err, arith, append_assoc, append-nil, zero, suc}
+use Rattle.std.proofs.Common.{◌≡◌, refl, sym, ap, ◌∙◌, subst, ℕ, ◌==◌, ◌&&◌, ◌||◌, not, Bool, true, false, List, [], ◌∷◌, ◌++◌, drop, length, Option, Some, None, Ok, append_assoc, zero, suc}
 use Rattle.std.specs.Prelude.{codes}
-use Rattle.std.specs.List.{list_all, flat_map, position_or_len}
+use Rattle.std.specs.List.{list_all, flat_map}
 use Rattle.std.proofs.lemmas.Bool.{false≢true, eqb-true, eq-eqb}
 use Rattle.std.proofs.Math.Seq.{drop-append_seam}
 use Rattle.class_desc.specs.declared.types.JType.{JType}
-use Rattle.class_desc.specs.declared.types.JType.TheVariants as type
-use Rattle.class_desc.specs.declared.types.JPart.{JPart, out-JPart}
+use Rattle.class_desc.specs.declared.types.JPart.{JPart}
 use Rattle.class_desc.specs.declared.types.JArg.{JArg}
 use Rattle.class_desc.specs.declared.types.JParam.{JParam}
-use Rattle.class_desc.specs.declared.types.JSig.{JSig}
-use Rattle.class_desc.specs.declared.types.JSig.TheVariants.{OfClass, OfMethod, OfField}
 use Rattle.class_desc.specs.Names.{is_among}
-use Rattle.class_desc.specs.Types.{type_text, bound_text, param_text, params_text, arg_text, args_text}
-use Rattle.class_desc.specs.Signature.{Production, AnyResult, AnyType, Reference, Thrown, ClassType, Element, is_type, are_types, allows_void, is_identifier, is_class_bound, is_param, AtClass, AtMethod, AtField, IsSignature}
-use Rattle.class_desc.specs.Descriptor.{is_primitive}
-use Rattle.class_desc.specs.Nesting.{top_levels, type_levels, bound_levels, param_levels, params_levels, levels, flat}
-use Rattle.class_desc.proofs.Layers.{text_void, form_void, form_prim}
-use Rattle.descriptor_sig.specs.declared.error.SigErr.{SigErr}
-use Rattle.descriptor_sig.specs.declared.error.SigErr.TheVariants.{Memory}
-use Rattle.descriptor_sig.specs.Standing.{Builds, Leads, Shallow, Takes, Row, RowTo, Marked, begins_with, begins_among, behind_name, is_before_type, is_plain_name, ends_name, ends_types, NameStands, TypeStands, PartStands, PartsStand, VariableStands, DimensionsStand, ArgsStand, TypesStand, MarkedStand, BoundStands, ParamStands, ParamsStand, FormalsStand, SigStands}
-use Rattle.descriptor_sig.proofs.Bytes.{both, first_of_cons, rest_of_cons, name_place, identifier_is_plain}
-use Rattle.descriptor_sig.proofs.Cases.{TypeKind, is_void, is_prim, is_named, is_var, is_array, type_kind}
-use Rattle.descriptor_sig.proofs.Leading.{Splits, cons, behind}
+use Rattle.class_desc.specs.Types.{type_text, bound_text, param_text}
+use Rattle.class_desc.specs.Signature.{Production, AnyType, Reference, Element, is_type, are_types, allows_void, is_identifier, is_class_bound, is_param}
+use Rattle.class_desc.specs.Nesting.{top_levels, bound_levels, param_levels, flat}
+use Rattle.class_desc.proofs.Layers.{form_prim}
+use Rattle.descriptor_sig.specs.Standing.{Builds, Shallow, Row, RowTo, Marked, begins_with, begins_among, behind_name, is_before_type, is_plain_name, ends_types, NameStands, TypeStands, PartsStand, VariableStands, DimensionsStand, ArgsStand, TypesStand, MarkedStand, BoundStands, ParamStands, ParamsStand}
+use Rattle.descriptor_sig.proofs.Bytes.{both, rest_of_cons, name_place, identifier_is_plain}
+use Rattle.descriptor_sig.proofs.Leading.{Leads, Splits, cons, behind}
 use Rattle.descriptor_sig.proofs.Shallows.{shallow_left, shallow_right, shallow_tail}
 use Rattle.descriptor_sig.proofs.TypeSteps.{any_type, type_first, type_unlike, TypeFirst, first_is, type_splits, element_kind, ElementKind, prim_stands, named_stands, var_stands, arrayed}
 use Rattle.descriptor_sig.proofs.PartSteps.{parts_split, part_splits}
@@ -59,9 +52,6 @@ type_goes_on t bytes more s = by (type_first 0 t bytes more s) (type_unlike 41 0
   by : TypeFirst bytes → begins_with 41 bytes ≡ false → ends_types bytes ≡ false
   by (first_is b tail f e) h = ap ends_types f ∙ (sym (ap (begins_with 41) f) ∙ h)
 
-pub types_begin : (bytes : List ℕ) (none : List JType) → none ≡ [] → Leads (behind none) TypesStand TypesStand bytes bytes
-types_begin bytes none is = record { leads = λ types more s. (types, ap (λ items. items ++ types) is, s) }
-
 pub types_next : (bytes : List ℕ) → ends_types bytes ≡ false → Splits cons TypesStand (TypeStands AnyType 0) TypesStand bytes bytes
 types_next bytes differs = record { splits = by } where
   by : (types : List JType) (more : List ℕ) → TypesStand types bytes more → (t : JType) × (later : List JType) × (middle : List ℕ) × (cons t later ≡ types) × TypeStands AnyType 0 t bytes middle × TypesStand later middle more
@@ -73,9 +63,6 @@ types_end bytes ends = record { gives = by } where
   by : (types : List JType) (more : List ℕ) → TypesStand types bytes more → ([] ≡ types) × (bytes ≡ more)
   by [] more s = (refl, s.row)
   by (t ∷ types) more s = let r = s.row in absurd (false≢true (sym (type_goes_on t bytes r.0 r.1) ∙ ends))
-
-pub marked_begin : (mark : ℕ) (bytes : List ℕ) (none : List JType) → none ≡ [] → Leads (behind none) (MarkedStand mark) (MarkedStand mark) bytes bytes
-marked_begin mark bytes none is = record { leads = λ types more s. (types, ap (λ items. items ++ types) is, s) }
 
 pub marked_next : (mark : ℕ) (bytes rest : List ℕ) → bytes ≡ mark ∷ rest → Splits cons (MarkedStand mark) (TypeStands AnyType 0) (MarkedStand mark) bytes rest
 marked_next mark bytes rest front = record { splits = by } where

@@ -1,17 +1,16 @@
 -- What stands where the parts of a class are read.
-use Rattle.std.proofs.Common.{◌≡◌, refl, sym, ap, ◌∙◌, subst, ℕ, ◌+◌, ◌<◌, ◌≤◌, ◌&&◌, ◌||◌, ◌==◌, Bool, true, false, List, [], ◌∷◌, ◌++◌, map, Option, Some, None, Result, Ok, Err, arith, append_assoc, append-nil}
+use Rattle.std.proofs.Common.{◌≡◌, refl, sym, ap, ◌∙◌, subst, ℕ, ◌&&◌, ◌||◌, ◌==◌, Bool, true, false, List, [], ◌∷◌, ◌++◌, map, Option, Some, None, Ok, append_assoc}
 use Rattle.std.specs.Prelude.{codes}
-use Rattle.std.specs.List.{list_all, flat_map, concat}
+use Rattle.std.specs.List.{list_all, flat_map}
 use Rattle.std.proofs.lemmas.Bool.{false≢true}
 use Rattle.class_desc.specs.declared.types.JPart.{JPart, out-JPart, roll-JPart, roll-out-JPart}
 use Rattle.class_desc.specs.declared.types.JArg.{JArg}
-use Rattle.class_desc.specs.declared.types.JArg.TheOpen.{JPart-F}
-use Rattle.class_desc.specs.Types.{part_text, arg_text, parts_text, args_text}
-use Rattle.class_desc.specs.Signature.{is_part, is_arg, are_parts, is_identifier, is_binary_name}
-use Rattle.class_desc.specs.Nesting.{Levels, part_levels, arg_levels, parts_levels, args_levels, flat}
+use Rattle.class_desc.specs.Types.{part_text, arg_text, args_text}
+use Rattle.class_desc.specs.Signature.{is_part, is_arg, is_identifier, is_binary_name}
+use Rattle.class_desc.specs.Nesting.{part_levels, arg_levels, args_levels, flat}
 use Rattle.class_desc.proofs.Layers.{text_part, form_part, levels_part}
-use Rattle.descriptor_sig.specs.Standing.{Builds, Leads, Shallow, Row, RowTo, Marked, Takes, begins_with, begins_among, is_plain_name, NameStands, PartStands, PartsStand, ArgsStand}
-use Rattle.descriptor_sig.proofs.Bytes.{both, first_of_cons, rest_of_cons, identifier_is_plain, binary_is_plain}
+use Rattle.descriptor_sig.specs.Standing.{Builds, Shallow, Row, RowTo, Marked, Takes, begins_with, begins_among, is_plain_name, NameStands, PartStands, PartsStand, ArgsStand}
+use Rattle.descriptor_sig.proofs.Bytes.{both, rest_of_cons, identifier_is_plain, binary_is_plain}
 use Rattle.descriptor_sig.proofs.Leading.{Splits, cons}
 use Rattle.descriptor_sig.proofs.Shallows.{shallow_left, shallow_right, shallow_tail}
 

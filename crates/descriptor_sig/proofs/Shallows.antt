@@ -1,6 +1,5 @@
 -- Nesting within the limit, of lists of levels put together.
-use Rattle.std.proofs.Common.{◌≡◌, refl, sym, ap, ◌∙◌, subst, ℕ, ◌+◌, ◌<◌, ◌≤◌, List, [], ◌∷◌, ◌++◌, replicate, max, arith, zero, suc}
-use Rattle.class_desc.specs.Nesting.{greatest, nesting_limit}
+use Rattle.std.proofs.Common.{ℕ, ◌≤◌, List, [], ◌∷◌, ◌++◌, arith}
 use Rattle.descriptor_sig.specs.Standing.{Shallow}
 
 pub shallow_left : (xs ys : List ℕ) → Shallow (xs ++ ys) → Shallow xs

@@ -1,6 +1,5 @@
 -- What stands where whole signatures are read.
-use Rattle.std.proofs.Common.{◌≡◌, ◌⊎◌, inl, inr, refl, sym, ap, ◌∙◌, subst, ℕ, ◌+◌, ◌<◌, ◌≤◌, ◌==◌, ◌&&◌, ◌||◌, ◌^◌, Bool, true, false, List, [], ◌∷◌, ◌++◌, length, Option, Some, None, Result, Ok, Err, arith, append_assoc, append-nil}
-use Rattle.std.specs.Prelude.{codes, nat_le, nat_lt}
+use Rattle.std.proofs.Common.{◌≡◌, ◌⊎◌, inl, inr, refl, sym, ap, ◌∙◌, subst, ℕ, ◌&&◌, true, false, List, [], ◌∷◌, ◌++◌, Option, Some, None, Ok, Err, append_assoc, append-nil}
 use Rattle.std.specs.List.{list_all, flat_map}
 use Rattle.std.proofs.lemmas.Bool.{false≢true}
 use Rattle.class_desc.specs.declared.types.JType.{JType}
@@ -8,16 +7,15 @@ use Rattle.class_desc.specs.declared.types.JType.TheVariants as type
 use Rattle.class_desc.specs.declared.types.JParam.{JParam}
 use Rattle.class_desc.specs.declared.types.JSig.{JSig}
 use Rattle.class_desc.specs.declared.types.JSig.TheVariants.{OfClass, OfMethod, OfField}
-use Rattle.class_desc.specs.Types.{type_text, params_text, signature_text}
-use Rattle.class_desc.specs.Signature.{AnyResult, AnyType, Reference, Thrown, ClassType, is_type, are_types, is_param, AtClass, AtMethod, AtField, SignatureSpells}
-use Rattle.class_desc.specs.Nesting.{top_levels, type_levels, params_levels, levels}
-use Rattle.class_desc.proofs.Layers.{text_void, form_void, form_prim, form_named, form_var, form_array}
+use Rattle.class_desc.specs.Types.{type_text, params_text}
+use Rattle.class_desc.specs.Signature.{AnyResult, AnyType, Reference, Thrown, ClassType, is_type, are_types, is_param, AtClass, AtMethod, AtField}
+use Rattle.class_desc.specs.Nesting.{top_levels, params_levels}
+use Rattle.class_desc.proofs.Layers.{text_void, form_prim, form_named, form_var, form_array}
 use Rattle.descriptor_sig.specs.declared.error.SigErr.{SigErr}
-use Rattle.descriptor_sig.specs.declared.error.SigErr.TheVariants.{Memory}
-use Rattle.descriptor_sig.specs.Standing.{Builds, Leads, Shallow, Takes, begins_with, ends_types, TypeStands, TypesStand, MarkedStand, ParamsStand, FormalsStand, SigStands}
+use Rattle.descriptor_sig.specs.Standing.{Builds, Shallow, Takes, begins_with, ends_types, TypeStands, TypesStand, MarkedStand, ParamsStand, FormalsStand, SigStands}
 use Rattle.descriptor_sig.proofs.Bytes.{both, rest_of_cons}
 use Rattle.descriptor_sig.proofs.Cases.{TypeKind, is_void, is_prim, is_named, is_var, is_array, type_kind}
-use Rattle.descriptor_sig.proofs.Leading.{Splits}
+use Rattle.descriptor_sig.proofs.Leading.{Leads, Splits}
 use Rattle.descriptor_sig.proofs.Shallows.{shallow_left, shallow_right, shallow_tail}
 use Rattle.descriptor_sig.proofs.TypeSteps.{any_type, type_unlike}
 use Rattle.descriptor_sig.proofs.ParamSteps.{types_row, marked_row}

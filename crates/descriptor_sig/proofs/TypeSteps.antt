@@ -1,7 +1,6 @@
 -- What stands where a type is read, from its first byte on.
-use Rattle.std.proofs.Common.{◌≡◌, ◌≢◌, refl, sym, ap, ◌∙◌, subst, ℕ, ◌+◌, ◌<◌, ◌≤◌, ◌==◌, ◌&&◌, ◌||◌, ◌^◌, not, Bool, true, false, List, [], ◌∷◌, ◌++◌, length, map, replicate, Result, Ok, Err, arith, append_assoc, zero, suc, lit<}
+use Rattle.std.proofs.Common.{◌≡◌, ◌≢◌, refl, sym, ap, ◌∙◌, subst, ℕ, ◌<◌, ◌≤◌, ◌==◌, ◌&&◌, ◌||◌, ◌^◌, Bool, true, false, List, [], ◌∷◌, ◌++◌, map, replicate, Ok, Err, arith, append_assoc, zero, suc, lit<}
 use Rattle.std.specs.Prelude.{codes, nat_le, nat_lt}
-use Rattle.std.specs.List.{list_all, list_any}
 use Rattle.std.proofs.lemmas.Bool.{false≢true, eqb-true, ltb-true, leb-true}
 use Rattle.class_desc.specs.declared.types.JType.{JType}
 use Rattle.class_desc.specs.declared.types.JPart.{JPart}
@@ -9,16 +8,16 @@ use Rattle.class_desc.specs.declared.types.JType.TheVariants as type
 use Rattle.std.proofs.lemmas.List.Folds.{list_any-append}
 use Rattle.class_desc.specs.Names.{is_among}
 use Rattle.class_desc.specs.Types.{type_text, part_text, parts_text}
-use Rattle.class_desc.specs.Signature.{Production, AnyResult, AnyType, Reference, Thrown, ClassType, Element, is_type, is_part, are_parts, allows_void, allows_primitive, allows_variable, allows_array, is_identifier}
+use Rattle.class_desc.specs.Signature.{Production, AnyType, Reference, Element, is_type, allows_void, allows_primitive, allows_variable, allows_array, is_identifier}
 use Rattle.class_desc.specs.Descriptor.{is_primitive}
 use Rattle.class_desc.specs.Nesting.{type_levels, part_levels, parts_levels}
-use Rattle.class_desc.proofs.Layers.{text_void, text_prim, text_named, text_var, text_array, form_void, form_prim, form_named, form_var, form_array, levels_named, levels_array}
+use Rattle.class_desc.proofs.Layers.{text_prim, text_named, text_var, text_array, form_void, form_prim, form_named, form_var, form_array, levels_named, levels_array}
 use Rattle.descriptor_sig.specs.declared.error.SigErr.{SigErr}
 use Rattle.descriptor_sig.specs.declared.error.SigErr.TheVariants.{Memory}
-use Rattle.descriptor_sig.specs.Standing.{Builds, Leads, Shallow, begins_with, begins_among, DimensionsStand, TypeStands, PartsStand, VariableStands}
+use Rattle.descriptor_sig.specs.Standing.{Builds, Shallow, begins_with, begins_among, DimensionsStand, TypeStands, PartsStand, VariableStands}
 use Rattle.descriptor_sig.proofs.Bytes.{both, first_of_cons, rest_of_cons, identifier_is_plain}
 use Rattle.descriptor_sig.proofs.Cases.{TypeKind, is_void, is_prim, is_named, is_var, is_array, type_kind}
-use Rattle.descriptor_sig.proofs.Leading.{Splits}
+use Rattle.descriptor_sig.proofs.Leading.{Leads, Splits}
 use Rattle.descriptor_sig.proofs.Shallows.{shallow_left, shallow_right, shallow_tail}
 
 -- ---- texts of each kind, in front of more

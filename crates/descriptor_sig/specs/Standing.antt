@@ -1,7 +1,7 @@
 -- What is read where a part of a signature is known to stand (JVMS 4.7.9.1): a value's text is in front, and more behind it.
 -- Type arguments are nested no deeper than the limit.
 use Rattle.std.specs.Prelude.{◌≡◌, ℕ, ◌≤◌, ◌<◌, ◌^◌, ◌==◌, ◌&&◌, ◌||◌, not, Bool, true, false, List, [], ◌∷◌, ◌++◌, map, drop, replicate, codes, Option, Some, None, Result, Ok, Err}
-use Rattle.std.specs.List.{list_all, position_or_len, concat}
+use Rattle.std.specs.List.{list_all, position_or_len}
 use Rattle.class_desc.specs.declared.types.JType.{JType}
 use Rattle.class_desc.specs.declared.types.JPart.{JPart}
 use Rattle.class_desc.specs.declared.types.JArg.{JArg}
@@ -179,9 +179,3 @@ pub record SigStands (place : Place) (sig : JSig) (bytes more : List ℕ) : Type
   pub spelled : SignatureSpells place sig bytes
   pub nested : nesting sig ≤ nesting_limit
   pub ends : more ≡ []
-
--- ---- steps between readings
-
--- whatever stands at these bytes is rebuilt from what stands at the rest
-pub record Leads {A B : Type 0} (rebuilt : A → B) (From : B → List ℕ → List ℕ → Type 0) (To : A → List ℕ → List ℕ → Type 0) (bytes rest : List ℕ) : Type 0 where
-  pub leads : (value : B) (more : List ℕ) → From value bytes more → (left : A) × (rebuilt left ≡ value) × To left rest more

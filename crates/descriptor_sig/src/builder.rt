@@ -1,4 +1,4 @@
-ghost use Rattle.std.specs.Prelude.{◌≡◌, ◌<◌, ◌≤◌, ◌==◌, not, length, Ok, OnOk};
+ghost use Rattle.std.specs.Prelude.{◌≡◌, ◌<◌, ◌≤◌, ◌==◌, length, Ok, OnOk};
 ghost use Rattle.std.specs.List.{position_or_len, prefix_len};
 ghost use Rattle.class_desc.specs.Signature.{AnyType, Element};
 ghost use Rattle.descriptor_sig.specs.Standing.{Builds, Takes, Passes, is_before_type as is_before_type_of, NameStands, VariableStands, DimensionsStand, TypeStands, PartStands, PartsStand, ArgsStand, ArgStands, ends_name as ends_name_of, ends_types as ends_types_of};
@@ -46,12 +46,7 @@ impl<'a> Builder<'a> {
         Builder { rest: text }
     }
 
-    pub fn is_at_end(&self) -> bool
-        ensures { result ≡ (length self.now == 0) }
-    {
-        self.rest.is_empty()
-    }
-
+    /// Takes the next byte.
     pub fn next(&mut self) -> Option<u8>
         ensures taken { Takes self.old result self.new }
         ensures shrinks { length self.new ≤ length self.old }
@@ -141,7 +136,7 @@ impl<'a> Builder<'a> {
         }
     }
 
-    /// Any type but `void`.
+    /// Any type but `void`, inside so many type arguments.
     #[cycle(build)]
     pub fn java_type(&mut self, alloc: Global, depth: u32) -> Result<JType, SigErr>
         ensures built { Builds (TypeStands AnyType depth) self.old result self.new }

@@ -147,11 +147,9 @@ fn tell_type(alloc: Global, told: &mut String, ty: &JType) -> Result<(), AllocEr
         }
         JType::Named(parts) => {
             told.push_str("{")?;
-            let mut dot = "";
-            for part in parts.items() {
-                told.push_str(dot)?;
+            for (i, part) in parts.items().iter().enumerate() {
+                told.push_str(if i == 0 { "" } else { "." })?;
                 tell_part(alloc, told, part)?;
-                dot = ".";
             }
             told.push_str("}")
         }
@@ -164,11 +162,9 @@ fn tell_part(alloc: Global, told: &mut String, part: &JPart) -> Result<(), Alloc
     if part.args.items().is_empty() {
         return Ok(());
     }
-    let mut comma = "(";
-    for arg in part.args.items() {
-        told.push_str(comma)?;
+    for (i, arg) in part.args.items().iter().enumerate() {
+        told.push_str(if i == 0 { "(" } else { "," })?;
         tell_argument(alloc, told, arg)?;
-        comma = ",";
     }
     told.push_str(")")
 }

@@ -1,4 +1,4 @@
-use Rattle.std.proofs.Common.{◌≡◌, ◌∙◌, ap, sym, refl, length, [], ◌∷◌, ◌++◌, ◌+◌, arith}
+use Rattle.std.proofs.Common.{◌∙◌, ap, sym, refl, length, [], ◌∷◌, ◌++◌, ◌+◌, arith}
 use Rattle.class_desc.specs.declared.types.JType.TheVariants as type
 use Rattle.descriptor_sig.specs.Standing.{begins_with}
 use Rattle.std.proofs.lemmas.Result.{err_from_is_err_and}
@@ -30,6 +30,12 @@ argument-returns-clause-built t c =
     let same = c.if-eats.ensures.1 in
     let again = c.if-eats-2.ensures.1 ∙ same in
     leads_ok (exact_leads c.args.depth c.args.self.now c.eats-3.new.self (c.if-eats-3.ensures.1 ∙ again) c.if-eats.ensures.0 (ap (begins_with 43) (sym same) ∙ c.if-eats-2.ensures.0) (ap (begins_with 45) (sym again) ∙ c.if-eats-3.ensures.0)) c.in_ok-java_type-3.ensures.built refl
+
+pub argument-returns-in_err-java_type-3-clause-built : goal.argument-returns-in_err-java_type-3-clause-built
+argument-returns-in_err-java_type-3-clause-built t c =
+    let same = c.if-eats.ensures.1 in
+    let again = c.if-eats-2.ensures.1 ∙ same in
+    leads_err (exact_leads c.args.depth c.args.self.now c.eats-3.new.self (c.if-eats-3.ensures.1 ∙ again) c.if-eats.ensures.0 (ap (begins_with 43) (sym same) ∙ c.if-eats-2.ensures.0) (ap (begins_with 45) (sym again) ∙ c.if-eats-3.ensures.0)) c.in_err-java_type-3.ensures.built c.from_residual-in_err-java_type-3.result (err_from_is_err_and c.from_residual-in_err-java_type-3.result c.from_residual-in_err-java_type-3.ensures.1)
 
 -- ---- arguments
 
@@ -72,6 +78,12 @@ element-returns-in_err-variable-in-84-clause-built t c = leads_err (var_leads c.
 
 pub element-returns-in_ok-variable-in-84-clause-built : goal.element-returns-in_ok-variable-in-84-clause-built
 element-returns-in_ok-variable-in-84-clause-built t c = leads_ok (var_leads c.args.depth c.args.self.now c.next.new.self (c.in-Some.ensures.taken ∙ ap (λ b. b ∷ c.next.new.self) c.in-84.is)) c.in_ok-variable-in-84.ensures.built refl
+
+pub element-returns-in_default-first-clause-built : goal.element-returns-in_default-first-clause-built
+element-returns-in_default-first-clause-built t c = prim_built c.args.depth c.args.self.now c.next.new.self c.in-Some.first c.in-Some.ensures.taken (omega arith) (omega arith)
+
+pub element-returns-in_default-clause-built : goal.element-returns-in_default-clause-built
+element-returns-in_default-clause-built t c = no_element c.args.depth c.args.self.now c.next.new.self _ c.in_default.ensures.taken
 
 -- ---- a type
 

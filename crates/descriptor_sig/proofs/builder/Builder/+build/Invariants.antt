@@ -1,6 +1,6 @@
-use Rattle.std.proofs.Common.{◌≡◌, ◌≤◌, ◌<◌, ◌+◌, ◌*◌, ◌-◌, length}
-use Rattle.descriptor_sig.specs.Standing.{Leads, PartsStand, ArgsStand}
-use Rattle.descriptor_sig.proofs.Leading.{behind}
+use Rattle.std.proofs.Common.{◌≤◌, ◌<◌, ◌+◌, ◌*◌, ◌-◌, length}
+use Rattle.descriptor_sig.specs.Standing.{PartsStand, ArgsStand}
+use Rattle.descriptor_sig.proofs.Leading.{Leads, behind}
 use Rattle.descriptor_sig.proofs.PartSteps.{PartsRow}
 use Rattle.descriptor_sig.proofs.ArgSteps.{ArgsRow}
 use Rattle.descriptor_sig.proofs.builder.Builder.+build.Given as goal

@@ -1,6 +1,6 @@
 use Rattle.std.proofs.Common.{length}
-use Rattle.descriptor_sig.specs.Standing.{Leads, ParamsStand}
-use Rattle.descriptor_sig.proofs.Leading.{behind}
+use Rattle.descriptor_sig.specs.Standing.{ParamsStand}
+use Rattle.descriptor_sig.proofs.Leading.{Leads, behind}
 use Rattle.descriptor_sig.proofs.ParamSteps.{ParamsRow}
 use Rattle.descriptor_sig.proofs.builder.Builder.parameters.Given as goal
 

@@ -1,4 +1,4 @@
-use Rattle.std.proofs.Common.{sym, refl}
+use Rattle.std.proofs.Common.{sym}
 use Rattle.std.proofs.lemmas.Result.{err_from_is_err_and}
 use Rattle.descriptor_sig.proofs.Leading.{one_more, one_fails, all_done}
 use Rattle.descriptor_sig.proofs.ParamSteps.{types_next, types_end}

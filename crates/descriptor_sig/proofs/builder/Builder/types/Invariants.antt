@@ -1,6 +1,6 @@
 use Rattle.std.proofs.Common.{length}
-use Rattle.descriptor_sig.specs.Standing.{Leads, TypesStand}
-use Rattle.descriptor_sig.proofs.Leading.{behind}
+use Rattle.descriptor_sig.specs.Standing.{TypesStand}
+use Rattle.descriptor_sig.proofs.Leading.{Leads, behind}
 use Rattle.descriptor_sig.proofs.builder.Builder.types.Given as goal
 
 abbrev pub invariant-loop-alloc : goal.invariant-loop-alloc
