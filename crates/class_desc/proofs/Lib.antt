@@ -1,5 +1,4 @@
 pub mod Filtered
-mod Corners
 pub mod Layers
 pub mod Levels
 pub mod Stripped

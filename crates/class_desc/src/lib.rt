@@ -1,4 +1,4 @@
-//! Descriptions of class files (JVMS 4), types as descriptors and signatures write them, and what is said of both.
+//! Descriptions of class files (JVMS 4), and what is said of them.
 //!
 //! A description has no pool, no offsets and only the attributes that the product keeps.
 #![tactic(auto)]
