@@ -8,11 +8,7 @@ mod attribute;
 mod bound_annotations;
 mod class;
 mod laws;
-#[cfg(test)]
-mod tests;
 mod threads;
-#[cfg(test)]
-mod type_tests;
 mod types;
 mod value;
 

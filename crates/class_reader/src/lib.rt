@@ -9,8 +9,6 @@ mod forms;
 mod member;
 mod pool;
 mod reader;
-#[cfg(test)]
-mod tests;
 
 pub use class::{one_description, read_class, reads_what_is_spelled};
 pub use fault::{ClassFault, ClassKind, ReadErr};

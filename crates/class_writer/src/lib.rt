@@ -7,8 +7,6 @@ mod check;
 mod error;
 mod key;
 mod laws;
-#[cfg(test)]
-mod tests;
 mod write;
 mod writer;
 

@@ -3,7 +3,5 @@
 
 mod job;
 mod options;
-#[cfg(test)]
-mod tests;
 
 pub use job::{Job, job_of};

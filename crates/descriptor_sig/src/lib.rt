@@ -4,16 +4,10 @@
 mod builder;
 mod descriptor;
 mod descriptor_reader;
-#[cfg(test)]
-mod descriptor_tests;
 mod error;
 mod signature;
-#[cfg(test)]
-mod signature_tests;
 mod stop;
 mod write;
-#[cfg(test)]
-mod write_tests;
 
 pub use descriptor::read_descriptor;
 pub use error::SigErr;

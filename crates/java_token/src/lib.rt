@@ -4,8 +4,6 @@
 mod copy;
 mod keyword;
 mod operator;
-#[cfg(test)]
-mod tests;
 mod token;
 
 pub use keyword::Kw;

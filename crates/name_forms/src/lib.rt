@@ -2,8 +2,6 @@
 #![tactic(auto)]
 
 mod names;
-#[cfg(test)]
-mod tests;
 mod units;
 
 pub use names::{is_class_name, is_field_name, is_method_name};

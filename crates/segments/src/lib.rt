@@ -16,6 +16,3 @@ pub use cut::segments;
 pub use error::SegErr;
 pub use laws::ends_by_segments;
 pub use segment::{SegEnd, Segment};
-
-#[cfg(test)]
-mod tests;

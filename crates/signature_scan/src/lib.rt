@@ -5,8 +5,6 @@ mod part;
 mod place;
 mod scanner;
 mod state;
-#[cfg(test)]
-mod tests;
 mod verdict;
 
 pub use place::SigPlace;

@@ -1,0 +1,11 @@
+//! Examples of descriptions, of class files and of what is written for them: the tests of class_desc, class_reader and class_writer, in a crate of their own, so that the proofs of those are checked once.
+#![tactic(auto)]
+
+#[cfg(test)]
+mod descriptions;
+#[cfg(test)]
+mod reading;
+#[cfg(test)]
+mod types;
+#[cfg(test)]
+mod writing;

@@ -1,6 +1,0 @@
-use Rattle.std.proofs.Common.{◌≡◌, []}
-use Rattle.std.specs.List.{AllByRecursion}
-use Rattle.class_writer.proofs.tests.numbered_methods.Given as goal
-
-abbrev pub invariant-loop-number : goal.invariant-loop-number
-invariant-loop-number l = AllByRecursion (λ m. m.attrs ≡ []) l.methods.items

@@ -1,0 +1,13 @@
+//! Examples of names, descriptors and signatures: the tests of name_forms, signature_scan and descriptor_sig, in a crate of their own, so that the proofs of those are checked once.
+#![tactic(auto)]
+
+#[cfg(test)]
+mod descriptors;
+#[cfg(test)]
+mod names;
+#[cfg(test)]
+mod scanning;
+#[cfg(test)]
+mod signatures;
+#[cfg(test)]
+mod writing;

@@ -1,0 +1,138 @@
+use signature_scan::SigPlace::{ClassPlace, FieldPlace, MethodPlace};
+use signature_scan::{SigPlace, Verdict, scan};
+use std::alloc::{AllocError, Global};
+use std::process::Abort;
+use std::test::Fail;
+
+/// Signatures.
+const FINE: [(SigPlace, &str); 13] = [
+    (FieldPlace, "LA;"),
+    (FieldPlace, "TT;"),
+    (FieldPlace, "[I"),
+    (FieldPlace, "[[TE;"),
+    (FieldPlace, "La/b/C<*+[I-TT;LD<LE;>.F;>.G.H<*>;"),
+    (ClassPlace, "LA;"),
+    (ClassPlace, "LA;LB;LC<*>;"),
+    (ClassPlace, "<T:LA;:LB;U:TT;V::LB;W:[I>LA<TT;>;"),
+    (ClassPlace, "<A:LFoo:La;>La;"),
+    (ClassPlace, "<L:T:TA:L:L:T:>LA;"),
+    (ClassPlace, "<A:TB:TB;T:LL;>LA;"),
+    (MethodPlace, "()V"),
+    (MethodPlace, "<T::LA;>(ITT;[[J)[TT;^LE;^TT;"),
+];
+
+/// Other texts, with the length of the longest prefix that begins a signature.
+const BAD: [(SigPlace, &str, u32); 35] = [
+    (FieldPlace, "", 0),
+    (FieldPlace, "I", 0),
+    (FieldPlace, "V", 0),
+    (FieldPlace, "[V", 1),
+    (FieldPlace, "L;", 1),
+    (FieldPlace, "T;", 1),
+    (FieldPlace, "L/A;", 1),
+    (FieldPlace, "LA/;", 3),
+    (FieldPlace, "LA//B;", 3),
+    (FieldPlace, "LA", 2),
+    (FieldPlace, "LA;;", 3),
+    (FieldPlace, "LA:;", 2),
+    (FieldPlace, "LA.;", 3),
+    (FieldPlace, "LA.B/C;", 4),
+    (FieldPlace, "LA<>;", 3),
+    (FieldPlace, "LA<I>;", 3),
+    (FieldPlace, "LA<+*>;", 4),
+    (FieldPlace, "LA<*>>;", 5),
+    (FieldPlace, "LA<*><*>;", 5),
+    (FieldPlace, "TT<*>;", 2),
+    (FieldPlace, "<T:>LA;", 0),
+    (ClassPlace, "TT;", 0),
+    (ClassPlace, "[LA;", 0),
+    (ClassPlace, "<>LA;", 1),
+    (ClassPlace, "<:>LA;", 1),
+    (ClassPlace, "<T>LA;", 2),
+    (ClassPlace, "<T:I>LA;", 4),
+    (ClassPlace, "<L::T:>LA;", 5),
+    (ClassPlace, "<T:L;>LA;", 4),
+    (ClassPlace, "<T:TA/B;>LA;", 5),
+    (ClassPlace, "<T:LA;LB;>LA;", 8),
+    (MethodPlace, "(V)V", 1),
+    (MethodPlace, "()", 2),
+    (MethodPlace, "()V^I", 4),
+    (MethodPlace, "()V^[LE;", 4),
+];
+
+#[test]
+fn tells_signatures_from_other_texts(rt: HostRuntime) -> Result<(), Fail> {
+    for (place, text) in &FINE {
+        expect(&rt, text, *place, Verdict::Fine);
+    }
+    for (place, text, at) in &BAD {
+        expect(&rt, text, *place, Verdict::BadText { at: *at });
+    }
+    Ok(())
+}
+
+/// Each front of a signature begins one and is none itself.
+#[test]
+fn wants_more_behind_each_front(rt: HostRuntime) -> Result<(), Fail> {
+    let text = "<T:La/A<-TT;>.B;U::TT;>(I[La;)V^TT;".as_bytes();
+    for cut in 0..text.len() {
+        let verdict = scan(&text[..cut], MethodPlace);
+        if cut == 31 {
+            assert_eq!(rt; verdict, Verdict::Fine);
+        } else {
+            assert_eq!(rt; verdict, Verdict::BadText { at: cut as u32 });
+        }
+    }
+    assert_eq!(rt; scan(text, MethodPlace), Verdict::Fine);
+    Ok(())
+}
+
+/// A text with type arguments nested so deep.
+fn nested(
+    alloc: Global,
+    front: &str,
+    opening: &str,
+    depth: u32,
+    end: &str,
+) -> Result<String, AllocError> {
+    let mut text = String::from_str(alloc, front)?;
+    for _ in 0..depth {
+        text.push_str(opening)?;
+    }
+    text.push_str("*")?;
+    for _ in 0..depth {
+        text.push_str(">;")?;
+    }
+    text.push_str(end)?;
+    Ok(text)
+}
+
+fn expect(rt: &impl Abort, text: &str, place: SigPlace, verdict: Verdict) {
+    assert!(rt; text.len() < 1_000_000);
+    assert_eq!(rt; scan(text.as_bytes(), place), verdict);
+}
+
+/// What stands in front, for each level and behind, and where the 65th level opens.
+const NESTED: [(SigPlace, &str, &str, &str, u32); 5] = [
+    (FieldPlace, "", "LA<", "", 194),
+    (ClassPlace, "<T:", "LA<", ">LA;", 197),
+    (ClassPlace, "<T::", "[[LA<", ">LA;", 328),
+    (FieldPlace, "", "LA<*>.B<", "", 514),
+    (MethodPlace, "<T:TT;>(LA<*>;)V^", "LA<*-LB;", "", 531),
+];
+
+#[test]
+fn allows_64_levels_of_type_arguments(rt: HostRuntime) -> Result<(), Fail> {
+    let alloc = rt.alloc();
+    for (place, front, opening, end, at) in &NESTED {
+        let fine = nested(alloc, front, opening, 64, end)?;
+        expect(&rt, fine.as_str(), *place, Verdict::Fine);
+        let deep = nested(alloc, front, opening, 65, end)?;
+        expect(&rt, deep.as_str(), *place, Verdict::TooDeep { at: *at });
+        let deeper = nested(alloc, front, opening, 70, end)?;
+        expect(&rt, deeper.as_str(), *place, Verdict::TooDeep { at: *at });
+    }
+    let bad = nested(alloc, "", "LA<", 65, "!")?;
+    expect(&rt, bad.as_str(), FieldPlace, Verdict::BadText { at: 326 });
+    Ok(())
+}

@@ -1,0 +1,319 @@
+//! Token lists and their segments, both written as words with blanks between them.
+use hdr_core::{List, Memory, Text};
+use java_token::{Kw, LexLit, OpTok, Token, TokenKind};
+use segments::{SegEnd, SegErr, Segment, segments};
+use std::alloc::Global;
+use std::test::Fail;
+
+/// Each list, and its segments: `~` ends a tail, `%` and a line a skipped group, and a class body stands between
+/// `<<` and `>>`. A `/` begins the next line.
+const CUTS: [(&str, &str); 51] = [
+    // what a body, an initialiser and an annotation element's default keep
+    (
+        "int a = f ( x -> { return ; } ) , b ; void m ( ) { { } }",
+        "int a = f ( x -> { } ) , b ; void m ( ) % 1",
+    ),
+    (
+        "String [ ] v ( ) default { } ;",
+        "String [ ] v ( ) default { } ;",
+    ),
+    (
+        "int [ ] v ( ) default { 1 , 2 } ;",
+        "int [ ] v ( ) default { 1 , 2 } ;",
+    ),
+    (
+        "A v ( ) default @ A ( { 1 } ) ;",
+        "A v ( ) default @ A ( { 1 } ) ;",
+    ),
+    ("X v ( ) default { } { y }", "X v ( ) default { } % 1"),
+    (
+        "default void m ( ) { } default",
+        "default void m ( ) % 1 default ~",
+    ),
+    ("int [ ] a = { 1 , 2 } ;", "int [ ] a = { } ;"),
+    (
+        "int [ ] [ ] a = { { 1 } , { 2 } } , b = { } ;",
+        "int [ ] [ ] a = { } , b = { } ;",
+    ),
+    (
+        "Object o = new Object ( ) { int x ; } ;",
+        "Object o = new Object ( ) { } ;",
+    ),
+    ("R r = ( ) -> { a ; b ; } ;", "R r = ( ) -> { } ;"),
+    ("R r = a [ f ( { 1 } ) ] ;", "R r = a [ f ( { } ) ] ;"),
+    ("int a = x default { 1 } ;", "int a = x default { } ;"),
+    ("int a = b { c } { d } ; e", "int a = b { } { } ; e ~"),
+    ("@ A ( { 1 , 2 } ) int x ;", "@ A ( { 1 , 2 } ) int x ;"),
+    (
+        "@ A ( x = { 1 } ) void m ( ) { }",
+        "@ A ( x = { 1 } ) void m ( ) % 1",
+    ),
+    (
+        "@ A ( x = { 1 } ) int y = { 2 } ;",
+        "@ A ( x = { 1 } ) int y = { } ;",
+    ),
+    ("int a [ ] = { } ; { }", "int a [ ] = { } ; % 1"),
+    // class bodies
+    ("class A { int x ; }", "class A << int x ; >>"),
+    ("class A { }", "class A << >>"),
+    (
+        "class A { void m ( ) { ; } int x }",
+        "class A << void m ( ) % 1 int x ~ >>",
+    ),
+    (
+        "class A { class B { } ; class C { } }",
+        "class A << class B << >> ; class C << >> >>",
+    ),
+    (
+        "interface I { void m ( ) ; }",
+        "interface I << void m ( ) ; >>",
+    ),
+    (
+        "@ interface I { int v ( ) default 1 ; }",
+        "@ interface I << int v ( ) default 1 ; >>",
+    ),
+    ("enum E { A , B }", "enum E << A , B ~ >>"),
+    (
+        "enum E { A { int x ; } , B ( 1 ) { } ; int y ; }",
+        "enum E << A % 1 , B ( 1 ) % 1 ; int y ; >>",
+    ),
+    (
+        "enum E { @ A ( b = { } ) C , D }",
+        "enum E << @ A ( b = { } ) C , D ~ >>",
+    ),
+    (
+        "record R ( int x ) { R { } }",
+        "record R ( int x ) << R % 1 >>",
+    ),
+    ("record R < T > ( T x ) { }", "record R < T > ( T x ) << >>"),
+    (
+        "record R < T extends A < T >> ( ) implements B { }",
+        "record R < T extends A < T >> ( ) implements B << >>",
+    ),
+    (
+        "class A extends B implements C { static { } }",
+        "class A extends B implements C << static % 1 >>",
+    ),
+    (
+        "public non - sealed class A { }",
+        "public non - sealed class A << >>",
+    ),
+    (
+        "@ A ( B . class ) class C { int x ; }",
+        "@ A ( B . class ) class C << int x ; >>",
+    ),
+    // what looks like a class body
+    ("void m ( A record ) { }", "void m ( A record ) % 1"),
+    ("record m ( ) { }", "record m ( ) << >>"),
+    ("record [ ] m ( ) { }", "record [ ] m ( ) % 1"),
+    (
+        "record record ( ) { int x ; }",
+        "record record ( ) << int x ; >>",
+    ),
+    ("int record ( ) { }", "int record ( ) % 1"),
+    (
+        "Object m ( ) throws A . class { int x ; }",
+        "Object m ( ) throws A . class % 1",
+    ),
+    (
+        "@ A ( B . class ) void m ( ) { }",
+        "@ A ( B . class ) void m ( ) % 1",
+    ),
+    (
+        "@ A ( class ) void m ( ) { }",
+        "@ A ( class ) void m ( ) % 1",
+    ),
+    ("int record = { } ;", "int record = { } ;"),
+    ("a . record b ( ) { }", "a . record b ( ) % 1"),
+    (
+        "Class c = A . class ; void m ( ) { }",
+        "Class c = A . class ; void m ( ) % 1",
+    ),
+    // ends
+    ("", ""),
+    (";", ";"),
+    ("; ; int x ; ;", "; ; int x ; ;"),
+    ("{ }", "% 1"),
+    ("static { a ; { } } static { }", "static % 1 static % 1"),
+    ("/ void m ( ) / { / } / { }", "void m ( ) % 3 % 5"),
+    (
+        "package a ; import b . * ; class C { } x",
+        "package a ; import b . * ; class C << >> x ~",
+    ),
+    (
+        "for ( ; ; ) x ( [ ; ] ) ; y",
+        "for ( ; ; ) x ( [ ; ] ) ; y ~",
+    ),
+];
+
+/// Each list whose brackets don't pair, and the line that is named.
+const WRONGS: [(&str, u32); 10] = [
+    ("( ]", 1),
+    ("class A {", 1),
+    ("/ class A {", 2),
+    ("a / ( b / ) )", 3),
+    ("( / [ / { / } / ]", 1),
+    ("/ } / {", 2),
+    ("class A { / ( / ] / }", 3),
+    ("/ [ ( / ] / )", 3),
+    ("class A { / void m ( ) { / }", 1),
+    ("int x = { / ( / } ;", 3),
+];
+
+const OPERATORS: [(&str, OpTok); 20] = [
+    ("(", OpTok::LeftParenthesis),
+    (")", OpTok::RightParenthesis),
+    ("[", OpTok::LeftBracket),
+    ("]", OpTok::RightBracket),
+    ("{", OpTok::LeftBrace),
+    ("}", OpTok::RightBrace),
+    (";", OpTok::Semicolon),
+    (",", OpTok::Comma),
+    (".", OpTok::Dot),
+    ("=", OpTok::Assign),
+    ("@", OpTok::At),
+    ("<", OpTok::Less),
+    (">", OpTok::Greater),
+    ("->", OpTok::Arrow),
+    ("*", OpTok::Star),
+    ("-", OpTok::Minus),
+    ("%", OpTok::Percent),
+    ("~", OpTok::Complement),
+    ("<<", OpTok::ShiftLeft),
+    (">>", OpTok::ShiftRight),
+];
+
+const KEYWORDS: [(&str, Kw); 7] = [
+    ("class", Kw::Class),
+    ("interface", Kw::Interface),
+    ("enum", Kw::Enum),
+    ("default", Kw::Default),
+    ("static", Kw::Static),
+    ("int", Kw::Int),
+    ("void", Kw::Void),
+];
+
+/// `count` class bodies in each other, each on a line of its own.
+fn nested(alloc: Global, count: u32) -> Result<Vec<Token>, Memory> {
+    let mut tokens = Vec::new(alloc);
+    for line in 1..=count {
+        tokens.push(Token {
+            kind: TokenKind::Keyword(Kw::Class),
+            line,
+        })?;
+        tokens.push(Token {
+            kind: word(alloc, "A")?,
+            line,
+        })?;
+        tokens.push(Token {
+            kind: TokenKind::Op(OpTok::LeftBrace),
+            line,
+        })?;
+    }
+    for line in 1..=count {
+        tokens.push(Token {
+            kind: TokenKind::Op(OpTok::RightBrace),
+            line,
+        })?;
+    }
+    Ok(tokens)
+}
+
+fn word(alloc: Global, text: &str) -> Result<TokenKind, Memory> {
+    Ok(TokenKind::Word(Text::of(alloc, text.as_bytes())?))
+}
+
+fn number(value: u32) -> TokenKind {
+    TokenKind::Lit(LexLit::Int {
+        value: Some(value as u64),
+        decimal: true,
+        long: false,
+    })
+}
+
+fn kind(alloc: Global, text: &str) -> Result<TokenKind, Memory> {
+    for (written, operator) in OPERATORS {
+        if written == text {
+            return Ok(TokenKind::Op(operator));
+        }
+    }
+    for (written, keyword) in KEYWORDS {
+        if written == text {
+            return Ok(TokenKind::Keyword(keyword));
+        }
+    }
+    match text.parse::<u32>() {
+        Ok(value) => Ok(number(value)),
+        Err(_) => word(alloc, text),
+    }
+}
+
+fn tokens(alloc: Global, text: &str) -> Result<Vec<Token>, Memory> {
+    let mut tokens = Vec::new(alloc);
+    let mut line: u32 = 1;
+    for word in text.split_whitespace() {
+        if word == "/" {
+            line = line.saturating_add(1);
+        } else {
+            tokens.push(Token {
+                kind: kind(alloc, word)?,
+                line,
+            })?;
+        }
+    }
+    Ok(tokens)
+}
+
+fn write(alloc: Global, segments: &[Segment], out: &mut Vec<TokenKind>) -> Result<(), Memory> {
+    for segment in segments {
+        for token in segment.head.items() {
+            out.push(token.kind.copy(alloc)?)?;
+        }
+        match &segment.end {
+            SegEnd::Semi => out.push(TokenKind::Op(OpTok::Semicolon))?,
+            SegEnd::Skipped { line } => {
+                out.push(TokenKind::Op(OpTok::Percent))?;
+                out.push(number(*line))?;
+            }
+            SegEnd::Tail => out.push(TokenKind::Op(OpTok::Complement))?,
+            SegEnd::Body(body) => {
+                out.push(TokenKind::Op(OpTok::ShiftLeft))?;
+                write(alloc, body.items(), out)?;
+                out.push(TokenKind::Op(OpTok::ShiftRight))?;
+            }
+        }
+    }
+    Ok(())
+}
+
+fn is_written(segments: &[TokenKind], wanted: &[Token]) -> bool {
+    segments.len() == wanted.len() && segments.iter().zip(wanted).all(|(a, b)| *a == b.kind)
+}
+
+#[test]
+fn cuts(rt: HostRuntime) -> Result<(), Fail> {
+    let alloc = rt.alloc();
+    for (text, wanted) in CUTS {
+        let mut written = Vec::new(alloc);
+        let segments = segments(alloc, &tokens(alloc, text)?)?;
+        write(alloc, segments.items(), &mut written)?;
+        assert!(rt; is_written(&written, &tokens(alloc, wanted)?), "{text}");
+    }
+    Ok(())
+}
+
+#[test]
+fn refusals(rt: HostRuntime) -> Result<(), Fail> {
+    let alloc = rt.alloc();
+    for (text, line) in WRONGS {
+        let answer = segments(alloc, &tokens(alloc, text)?);
+        assert!(rt;
+            answer.is_err_and(|error| error == SegErr::Unbalanced { line }),
+            "{text}"
+        );
+    }
+    assert!(rt; segments(alloc, &nested(alloc, 64)?).is_ok());
+    let deep = segments(alloc, &nested(alloc, 65)?);
+    assert!(rt; deep.is_err_and(|error| error == SegErr::TooDeep { line: 65 }));
+    Ok(())
+}
