@@ -7,7 +7,7 @@ use std::alloc::Global;
 
 /// An annotation (JVMS 4.7.16).
 #[cycle(annotation)]
-#[derive(Debug, Drop)]
+#[derive(Drop)]
 pub struct AnnDesc {
     /// The field descriptor of the annotation type.
     pub descriptor: Text,
@@ -16,7 +16,7 @@ pub struct AnnDesc {
 
 /// An element of an annotation, with its name.
 #[cycle(annotation)]
-#[derive(Debug, Drop)]
+#[derive(Drop)]
 pub struct ElemPair {
     pub name: Text,
     pub value: ElemValue,
@@ -24,7 +24,7 @@ pub struct ElemPair {
 
 /// The value of an element (JVMS 4.7.16.1).
 #[cycle(annotation)]
-#[derive(Debug, Drop)]
+#[derive(Drop)]
 pub enum ElemValue {
     /// A constant under one of the tags `B C D F I J S Z s`.
     Const { tag: u8, value: Value },

@@ -7,7 +7,7 @@ use std::alloc::Global;
 
 /// An attribute of a class, field, method or component that the product keeps (JVMS 4.7).
 #[cycle(attribute)]
-#[derive(Debug, Drop)]
+#[derive(Drop)]
 pub enum Attr {
     ConstantValue(Value),
     /// The binary names of the thrown classes.
@@ -31,7 +31,7 @@ pub enum Attr {
 
 /// A component of a record (JVMS 4.7.30).
 #[cycle(attribute)]
-#[derive(Debug, Drop)]
+#[derive(Drop)]
 pub struct ComponentDesc {
     pub name: Text,
     pub descriptor: Text,
@@ -39,7 +39,7 @@ pub struct ComponentDesc {
 }
 
 /// An entry of InnerClasses (JVMS 4.7.6).
-#[derive(Debug, Drop)]
+#[derive(Drop)]
 pub struct InnerEntry {
     pub inner: Text,
     pub outer: Option<Text>,
@@ -48,7 +48,7 @@ pub struct InnerEntry {
 }
 
 /// An entry of MethodParameters (JVMS 4.7.24).
-#[derive(Debug, Drop)]
+#[derive(Drop)]
 pub struct ParamEntry {
     pub name: Option<Text>,
     pub flags: u16,

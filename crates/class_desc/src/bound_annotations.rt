@@ -6,14 +6,14 @@ use hdr_core::{List, Memory, TryCopy};
 use std::alloc::Global;
 
 /// An annotation, and whether it stands among the visible ones (JVMS 4.7.16, 4.7.17).
-#[derive(Debug, Drop)]
+#[derive(Drop)]
 pub struct Ann {
     pub visible: bool,
     pub desc: AnnDesc,
 }
 
 /// The annotations of a class, each list in the order of the members that it belongs to.
-#[derive(Debug, Drop)]
+#[derive(Drop)]
 pub struct ClassAnns {
     pub own: List<Ann>,
     pub fields: List<List<Ann>>,
@@ -27,7 +27,7 @@ pub struct ClassAnns {
 }
 
 /// What of a class is deprecated (JVMS 4.7.15).
-#[derive(Debug, Drop)]
+#[derive(Drop)]
 pub struct Deprecations {
     pub own: bool,
     pub fields: List<bool>,

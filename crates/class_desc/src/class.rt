@@ -5,7 +5,7 @@ use hdr_core::{List, Memory, Text, TryCopy};
 use std::alloc::Global;
 
 /// A class file (JVMS 4.1), its names and descriptors as modified UTF-8.
-#[derive(Debug, Drop)]
+#[derive(Drop)]
 pub struct ClassDesc {
     pub minor: u16,
     pub major: u16,
@@ -21,7 +21,7 @@ pub struct ClassDesc {
 }
 
 /// A field (JVMS 4.5).
-#[derive(Debug, Drop)]
+#[derive(Drop)]
 pub struct FieldDesc {
     pub flags: u16,
     pub name: Text,
@@ -30,7 +30,7 @@ pub struct FieldDesc {
 }
 
 /// A method (JVMS 4.6).
-#[derive(Debug, Drop)]
+#[derive(Drop)]
 pub struct MethodDesc {
     pub flags: u16,
     pub name: Text,

@@ -6,7 +6,7 @@ use std::alloc::Global;
 
 /// A type as descriptors and signatures write it (JVMS 4.3, 4.7.9.1), or `void`.
 #[cycle(java_type)]
-#[derive(Debug, Drop)]
+#[derive(Drop)]
 pub enum JType {
     Void,
     /// The letter of a primitive type in descriptors.
@@ -25,7 +25,7 @@ pub enum JType {
 
 /// A class with its type arguments: the first part of a type has the binary name of its class, each later one a simple name.
 #[cycle(java_type)]
-#[derive(Debug, Drop)]
+#[derive(Drop)]
 pub struct JPart {
     pub name: Text,
     pub args: List<JArg>,
@@ -33,7 +33,7 @@ pub struct JPart {
 
 /// A type argument.
 #[cycle(java_type)]
-#[derive(Debug, Drop)]
+#[derive(Drop)]
 pub enum JArg {
     Exact(JType),
     /// `? extends` a type.
@@ -45,7 +45,7 @@ pub enum JArg {
 }
 
 /// A type parameter (JVMS 4.7.9.1).
-#[derive(Debug, Drop)]
+#[derive(Drop)]
 pub struct JParam {
     pub name: Text,
     pub class_bound: Option<JType>,
@@ -53,7 +53,7 @@ pub struct JParam {
 }
 
 /// What a descriptor or a signature says (JVMS 4.3, 4.7.9.1).
-#[derive(Debug, Drop)]
+#[derive(Drop)]
 pub enum JSig {
     OfClass {
         params: List<JParam>,

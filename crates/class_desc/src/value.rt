@@ -4,7 +4,7 @@ use hdr_core::{Memory, Text};
 use std::alloc::Global;
 
 /// A constant (JVMS 4.4.3 to 4.4.5).
-#[derive(Debug, Drop)]
+#[derive(Drop)]
 pub enum Value {
     Integer(i32),
     Long(i64),
