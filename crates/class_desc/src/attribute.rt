@@ -1,6 +1,7 @@
 ghost use Rattle.std.specs.Prelude.{◌≡◌, IfOk};
 
 use crate::annotation::{AnnDesc, ElemValue};
+use crate::copies::copy_three;
 use crate::value::Value;
 use hdr_core::{List, Memory, Text, TryCopy};
 use std::alloc::Global;
@@ -130,10 +131,11 @@ impl InnerEntry {
     pub fn copy(&self, alloc: Global) -> Result<InnerEntry, Memory>
         ensures { IfOk result (λ copy. copy ≡ self.now) }
     {
+        let (inner, outer, name) = copy_three(alloc, &self.inner, &self.outer, &self.name)?;
         Ok(InnerEntry {
-            inner: self.inner.copy(alloc)?,
-            outer: self.outer.try_copy(alloc)?,
-            name: self.name.try_copy(alloc)?,
+            inner,
+            outer,
+            name,
             flags: self.flags,
         })
     }

@@ -2,6 +2,7 @@
 ghost use Rattle.std.specs.Prelude.{◌≡◌, IfOk};
 
 use crate::annotation::{AnnDesc, ElemValue};
+use crate::copies::copy_three;
 use hdr_core::{List, Memory, TryCopy};
 use std::alloc::Global;
 
@@ -55,13 +56,20 @@ impl ClassAnns {
     pub fn copy(&self, alloc: Global) -> Result<ClassAnns, Memory>
         ensures { IfOk result (λ copy. copy ≡ self.now) }
     {
+        let (own, fields, methods) = copy_three(alloc, &self.own, &self.fields, &self.methods)?;
+        let (formals, components, defaults) = copy_three(
+            alloc,
+            &self.formals,
+            &self.components,
+            &self.defaults,
+        )?;
         Ok(ClassAnns {
-            own: self.own.copy(alloc)?,
-            fields: self.fields.copy(alloc)?,
-            methods: self.methods.copy(alloc)?,
-            formals: self.formals.copy(alloc)?,
-            components: self.components.copy(alloc)?,
-            defaults: self.defaults.copy(alloc)?,
+            own,
+            fields,
+            methods,
+            formals,
+            components,
+            defaults,
             deprecated: self.deprecated.copy(alloc)?,
         })
     }

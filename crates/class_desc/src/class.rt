@@ -1,6 +1,7 @@
 ghost use Rattle.std.specs.Prelude.{◌≡◌, IfOk};
 
 use crate::attribute::Attr;
+use crate::copies::copy_three;
 use hdr_core::{List, Memory, Text, TryCopy};
 use std::alloc::Global;
 
@@ -42,16 +43,23 @@ impl ClassDesc {
     pub fn copy(&self, alloc: Global) -> Result<ClassDesc, Memory>
         ensures { IfOk result (λ copy. copy ≡ self.now) }
     {
+        let (name, super_name, interfaces) = copy_three(
+            alloc,
+            &self.name,
+            &self.super_name,
+            &self.interfaces,
+        )?;
+        let (fields, methods, attrs) = copy_three(alloc, &self.fields, &self.methods, &self.attrs)?;
         Ok(ClassDesc {
             minor: self.minor,
             major: self.major,
             flags: self.flags,
-            name: self.name.copy(alloc)?,
-            super_name: self.super_name.try_copy(alloc)?,
-            interfaces: self.interfaces.copy(alloc)?,
-            fields: self.fields.copy(alloc)?,
-            methods: self.methods.copy(alloc)?,
-            attrs: self.attrs.copy(alloc)?,
+            name,
+            super_name,
+            interfaces,
+            fields,
+            methods,
+            attrs,
         })
     }
 }
@@ -60,11 +68,17 @@ impl FieldDesc {
     pub fn copy(&self, alloc: Global) -> Result<FieldDesc, Memory>
         ensures { IfOk result (λ copy. copy ≡ self.now) }
     {
+        let (name, descriptor, attrs) = copy_three(
+            alloc,
+            &self.name,
+            &self.descriptor,
+            &self.attrs,
+        )?;
         Ok(FieldDesc {
             flags: self.flags,
-            name: self.name.copy(alloc)?,
-            descriptor: self.descriptor.copy(alloc)?,
-            attrs: self.attrs.copy(alloc)?,
+            name,
+            descriptor,
+            attrs,
         })
     }
 }
@@ -79,11 +93,17 @@ impl MethodDesc {
     pub fn copy(&self, alloc: Global) -> Result<MethodDesc, Memory>
         ensures { IfOk result (λ copy. copy ≡ self.now) }
     {
+        let (name, descriptor, attrs) = copy_three(
+            alloc,
+            &self.name,
+            &self.descriptor,
+            &self.attrs,
+        )?;
         Ok(MethodDesc {
             flags: self.flags,
-            name: self.name.copy(alloc)?,
-            descriptor: self.descriptor.copy(alloc)?,
-            attrs: self.attrs.copy(alloc)?,
+            name,
+            descriptor,
+            attrs,
         })
     }
 }

@@ -7,6 +7,7 @@ mod annotation;
 mod attribute;
 mod bound_annotations;
 mod class;
+mod copies;
 mod laws;
 mod threads;
 mod types;

@@ -1,5 +1,6 @@
 ghost use Rattle.std.specs.Prelude.{◌≡◌, IfOk};
 
+use crate::copies::copy_three;
 use hdr_core::{List, Memory, Text, TryCopy};
 use sqlite_items::Boxed;
 use std::alloc::Global;
@@ -145,10 +146,16 @@ impl JParam {
     pub fn copy(&self, alloc: Global) -> Result<JParam, Memory>
         ensures { IfOk result (λ copy. copy ≡ self.now) }
     {
+        let (name, class_bound, interface_bounds) = copy_three(
+            alloc,
+            &self.name,
+            &self.class_bound,
+            &self.interface_bounds,
+        )?;
         Ok(JParam {
-            name: self.name.copy(alloc)?,
-            class_bound: self.class_bound.try_copy(alloc)?,
-            interface_bounds: self.interface_bounds.copy(alloc)?,
+            name,
+            class_bound,
+            interface_bounds,
         })
     }
 }
@@ -168,22 +175,30 @@ impl JSig {
                 params,
                 super_type,
                 interfaces,
-            } => Ok(JSig::OfClass {
-                params: params.copy(alloc)?,
-                super_type: super_type.copy(alloc)?,
-                interfaces: interfaces.copy(alloc)?,
-            }),
+            } => {
+                let (params, super_type, interfaces) = copy_three(
+                    alloc, params, super_type, interfaces,
+                )?;
+                Ok(JSig::OfClass {
+                    params,
+                    super_type,
+                    interfaces,
+                })
+            }
             JSig::OfMethod {
                 params,
                 formals,
                 ret,
                 throws,
-            } => Ok(JSig::OfMethod {
-                params: params.copy(alloc)?,
-                formals: formals.copy(alloc)?,
-                ret: ret.copy(alloc)?,
-                throws: throws.copy(alloc)?,
-            }),
+            } => {
+                let (params, formals, throws) = copy_three(alloc, params, formals, throws)?;
+                Ok(JSig::OfMethod {
+                    params,
+                    formals,
+                    ret: ret.copy(alloc)?,
+                    throws,
+                })
+            }
             JSig::OfField(ty) => Ok(JSig::OfField(ty.copy(alloc)?)),
         }
     }
