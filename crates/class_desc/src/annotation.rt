@@ -40,9 +40,14 @@ impl AnnDesc {
     pub fn copy(&self, alloc: Global) -> Result<AnnDesc, Memory>
         ensures { IfOk result (λ copy. copy ≡ self.now) }
     {
+        let pairs = self.elements.items();
+        let mut elements = Vec::new(alloc);
+        for pair in pairs {
+            elements.push(pair.copy(alloc)?)?;
+        }
         Ok(AnnDesc {
             descriptor: self.descriptor.copy(alloc)?,
-            elements: copy_pairs(alloc, self.elements.items())?,
+            elements: List::of(elements),
         })
     }
 }
@@ -81,17 +86,6 @@ impl ElemValue {
             ElemValue::List(values) => Ok(ElemValue::List(copy_values(alloc, values.items())?)),
         }
     }
-}
-
-#[cycle(copy_annotation)]
-fn copy_pairs(alloc: Global, pairs: &[ElemPair]) -> Result<List<ElemPair>, Memory>
-    ensures { IfOk result (λ copy. copy ≡ pairs.now) }
-{
-    let mut copy = Vec::new(alloc);
-    for pair in pairs {
-        copy.push(pair.copy(alloc)?)?;
-    }
-    Ok(List::of(copy))
 }
 
 #[cycle(copy_annotation)]

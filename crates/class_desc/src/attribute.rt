@@ -88,10 +88,15 @@ impl ComponentDesc {
     pub fn copy(&self, alloc: Global) -> Result<ComponentDesc, Memory>
         ensures { IfOk result (λ copy. copy ≡ self.now) }
     {
+        let attributes = self.attrs.items();
+        let mut attrs = Vec::new(alloc);
+        for attribute in attributes {
+            attrs.push(attribute.copy(alloc)?)?;
+        }
         Ok(ComponentDesc {
             name: self.name.copy(alloc)?,
             descriptor: self.descriptor.copy(alloc)?,
-            attrs: copy_attributes(alloc, self.attrs.items())?,
+            attrs: List::of(attrs),
         })
     }
 }
@@ -106,17 +111,6 @@ fn copy_components(
     let mut copy = Vec::new(alloc);
     for component in components {
         copy.push(component.copy(alloc)?)?;
-    }
-    Ok(List::of(copy))
-}
-
-#[cycle(copy_attribute)]
-fn copy_attributes(alloc: Global, attributes: &[Attr]) -> Result<List<Attr>, Memory>
-    ensures { IfOk result (λ copy. copy ≡ attributes.now) }
-{
-    let mut copy = Vec::new(alloc);
-    for attribute in attributes {
-        copy.push(attribute.copy(alloc)?)?;
     }
     Ok(List::of(copy))
 }

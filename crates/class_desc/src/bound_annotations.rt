@@ -56,6 +56,7 @@ impl ClassAnns {
     pub fn copy(&self, alloc: Global) -> Result<ClassAnns, Memory>
         ensures { IfOk result (λ copy. copy ≡ self.now) }
     {
+        let deprecated = self.deprecated.copy(alloc)?;
         let (own, fields, methods) = copy_three(alloc, &self.own, &self.fields, &self.methods)?;
         let (formals, components, defaults) = copy_three(
             alloc,
@@ -70,7 +71,7 @@ impl ClassAnns {
             formals,
             components,
             defaults,
-            deprecated: self.deprecated.copy(alloc)?,
+            deprecated,
         })
     }
 }

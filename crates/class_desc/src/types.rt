@@ -93,9 +93,14 @@ impl JPart {
     pub fn copy(&self, alloc: Global) -> Result<JPart, Memory>
         ensures { IfOk result (λ copy. copy ≡ self.now) }
     {
+        let args = self.args.items();
+        let mut copies = Vec::new(alloc);
+        for arg in args {
+            copies.push(arg.copy(alloc)?)?;
+        }
         Ok(JPart {
             name: self.name.copy(alloc)?,
-            args: copy_args(alloc, self.args.items())?,
+            args: List::of(copies),
         })
     }
 }
@@ -121,17 +126,6 @@ fn copy_parts(alloc: Global, parts: &[JPart]) -> Result<List<JPart>, Memory>
     let mut copy = Vec::new(alloc);
     for part in parts {
         copy.push(part.copy(alloc)?)?;
-    }
-    Ok(List::of(copy))
-}
-
-#[cycle(copy_type)]
-fn copy_args(alloc: Global, args: &[JArg]) -> Result<List<JArg>, Memory>
-    ensures { IfOk result (λ copy. copy ≡ args.now) }
-{
-    let mut copy = Vec::new(alloc);
-    for arg in args {
-        copy.push(arg.copy(alloc)?)?;
     }
     Ok(List::of(copy))
 }
@@ -191,11 +185,12 @@ impl JSig {
                 ret,
                 throws,
             } => {
+                let ret = ret.copy(alloc)?;
                 let (params, formals, throws) = copy_three(alloc, params, formals, throws)?;
                 Ok(JSig::OfMethod {
                     params,
                     formals,
-                    ret: ret.copy(alloc)?,
+                    ret,
                     throws,
                 })
             }
