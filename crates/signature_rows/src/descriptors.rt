@@ -98,7 +98,10 @@ fn read(alloc: Global, text: &[u8]) -> Result<JSig, SigErr> {
 }
 
 fn refuses(rt: &impl Abort, alloc: Global, text: &[u8], at: u32) {
-    assert!(rt; read(alloc, text).err() == Some(SigErr::BadText { at }), "{text:?}");
+    assert!(rt;
+        read(alloc, text).err() == Some(SigErr::BadText { at }),
+        "{text:?}"
+    );
 }
 
 #[test]

@@ -181,13 +181,7 @@ fn expect_tree(
     text: &[u8],
     tree: &str,
 ) -> Result<(), Fail> {
-    check_tree(
-        rt,
-        alloc,
-        text,
-        read(alloc, text, place),
-        tree.as_bytes(),
-    )
+    check_tree(rt, alloc, text, read(alloc, text, place), tree.as_bytes())
 }
 
 fn expect_error(rt: &impl Abort, alloc: Global, place: SigPlace, text: &[u8], error: SigErr) {
