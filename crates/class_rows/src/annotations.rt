@@ -1,6 +1,6 @@
 //! The annotations of a class, and their copy.
 use crate::lists::{none, one, two};
-use crate::told::check_alike;
+use crate::told::are_alike;
 use class_desc::{Ann, AnnDesc, ClassAnns, Deprecations, ElemValue, Value};
 use hdr_core::{List, Memory, Text};
 use std::alloc::Global;
@@ -54,7 +54,8 @@ fn class_annotations(alloc: Global) -> Result<ClassAnns, Memory> {
 
 #[test]
 fn copies_the_annotations_of_a_class(rt: HostRuntime) -> Result<(), Fail> {
-    let alloc = rt.alloc();
-    let annotations = class_annotations(alloc)?;
-    check_alike(&rt, alloc, &annotations, &annotations.copy(alloc)?)
+    let annotations = class_annotations(rt.alloc())?;
+    let copy = annotations.copy(rt.alloc())?;
+    assert!(rt; are_alike(rt.alloc(), &annotations, &copy)?);
+    Ok(())
 }

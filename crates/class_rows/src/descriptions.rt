@@ -1,6 +1,6 @@
 //! A description with a value of each type, and its copy.
 use crate::lists::{none, one, texts, two};
-use crate::told::check_alike;
+use crate::told::are_alike;
 use class_desc::{
     AnnDesc, Attr, ClassDesc, ComponentDesc, ElemPair, ElemValue, FieldDesc, InnerEntry,
     MethodDesc, ParamEntry, Value,
@@ -8,7 +8,6 @@ use class_desc::{
 use hdr_core::{List, Memory, Text};
 use sqlite_items::Boxed;
 use std::alloc::Global;
-use std::process::Abort;
 use std::test::Fail;
 
 fn pair(alloc: Global, name: &[u8], value: ElemValue) -> Result<ElemPair, Memory> {
@@ -163,23 +162,24 @@ fn class(alloc: Global) -> Result<ClassDesc, Memory> {
     })
 }
 
-#[test]
-fn copies_a_class_with_all_that_it_holds(rt: HostRuntime) -> Result<(), Fail> {
-    let alloc = rt.alloc();
-    let class = class(alloc)?;
-    check_alike(&rt, alloc, &class, &class.copy(alloc)?)
+fn is_copied(alloc: Global, attr: &Attr) -> Result<bool, Memory> {
+    let copy = attr.copy(alloc)?;
+    Ok(are_alike(alloc, attr, &copy)?)
 }
 
-fn check_copies(rt: &impl Abort, alloc: Global, attrs: &[Attr]) -> Result<(), Fail> {
-    for attr in attrs {
-        check_alike(rt, alloc, attr, &attr.copy(alloc)?)?;
-    }
+#[test]
+fn copies_a_class_with_all_that_it_holds(rt: HostRuntime) -> Result<(), Fail> {
+    let class = class(rt.alloc())?;
+    let copy = class.copy(rt.alloc())?;
+    assert!(rt; are_alike(rt.alloc(), &class, &copy)?);
     Ok(())
 }
 
 /// With their texts, components, annotations and values.
 #[test]
 fn copies_each_attribute(rt: HostRuntime) -> Result<(), Fail> {
-    let alloc = rt.alloc();
-    check_copies(&rt, alloc, attributes(alloc)?.items())
+    for attr in attributes(rt.alloc())?.items() {
+        assert!(rt; is_copied(rt.alloc(), attr)?);
+    }
+    Ok(())
 }

@@ -5,28 +5,23 @@ use class_desc::{
 };
 use hdr_core::{List, Text};
 use std::alloc::{AllocError, Global};
-use std::process::Abort;
-use std::test::Fail;
 
 pub trait Told {
     /// Adds the words of the value.
     fn tell(&self, told: &mut Vec<u8>) -> Result<(), AllocError>;
 }
 
-/// Checks that both are told alike, and not in nothing.
-pub fn check_alike<T: Told>(
-    rt: &impl Abort,
-    alloc: Global,
-    source: &T,
-    copy: &T,
-) -> Result<(), Fail> {
-    let mut wanted = Vec::new(alloc);
-    source.tell(&mut wanted)?;
+fn words_of<T: Told>(alloc: Global, value: &T) -> Result<Vec<u8>, AllocError> {
     let mut told = Vec::new(alloc);
-    copy.tell(&mut told)?;
-    assert!(rt; !told.is_empty());
-    assert!(rt; told == wanted);
-    Ok(())
+    value.tell(&mut told)?;
+    Ok(told)
+}
+
+/// Whether both are told alike, and not in nothing.
+pub fn are_alike<T: Told>(alloc: Global, source: &T, copy: &T) -> Result<bool, AllocError> {
+    let wanted = words_of(alloc, source)?;
+    let told = words_of(alloc, copy)?;
+    Ok(!told.is_empty() && told == wanted)
 }
 
 fn tell_word(told: &mut Vec<u8>, word: &[u8]) -> Result<(), AllocError> {
@@ -35,7 +30,7 @@ fn tell_word(told: &mut Vec<u8>, word: &[u8]) -> Result<(), AllocError> {
 }
 
 fn tell_number(told: &mut Vec<u8>, number: u16) -> Result<(), AllocError> {
-    tell_word(told, &number.to_be_bytes())
+    tell_word(told, &u32::from(number).to_be_bytes())
 }
 
 /// What the value is, and its words.
