@@ -2,10 +2,14 @@
 #![tactic(auto)]
 
 #[cfg(test)]
+mod annotations;
+#[cfg(test)]
 mod descriptions;
+#[cfg(test)]
+mod lists;
 #[cfg(test)]
 mod reading;
 #[cfg(test)]
-mod types;
+mod told;
 #[cfg(test)]
 mod writing;

@@ -2,6 +2,7 @@ ghost use Rattle.std.specs.Prelude.{◌≡◌, [], IfOk};
 ghost use Rattle.std.specs.List.{AllByRecursion};
 ghost use Rattle.class_desc.specs.Layout.{HasNoAttributes};
 
+use crate::lists::none;
 use class_desc::{ClassDesc, FieldDesc, MethodDesc};
 use class_writer::{PoolErr, write_class};
 use hdr_core::{List, Memory, Text};
@@ -28,7 +29,7 @@ fn fields_of(alloc: Global, field: Option<(&[u8], &[u8])>) -> Result<List<FieldD
             flags: 0x0001,
             name: Text::of(alloc, name)?,
             descriptor: Text::of(alloc, descriptor)?,
-            attrs: List::of(Vec::new(alloc)),
+            attrs: none(alloc),
         })?;
     }
     Ok(List::of(fields))
@@ -43,7 +44,7 @@ fn methods_of(alloc: Global, method: Option<(&[u8], &[u8])>) -> Result<List<Meth
             flags: 0x0001,
             name: Text::of(alloc, name)?,
             descriptor: Text::of(alloc, descriptor)?,
-            attrs: List::of(Vec::new(alloc)),
+            attrs: none(alloc),
         })?;
     }
     Ok(List::of(methods))
@@ -67,10 +68,10 @@ fn class_of(alloc: Global, case: &Case<'_>) -> Result<ClassDesc, Memory>
         flags: 0x0021,
         name: Text::of(alloc, case.name)?,
         super_name: super_of(alloc, case.super_name)?,
-        interfaces: List::of(Vec::new(alloc)),
+        interfaces: none(alloc),
         fields,
         methods,
-        attrs: List::of(Vec::new(alloc)),
+        attrs: none(alloc),
     })
 }
 
@@ -106,12 +107,16 @@ const CASES: [Case<'static>; 4] = [
     },
 ];
 
+fn written(alloc: Global, case: &Case<'_>) -> Result<Vec<u8>, PoolErr> {
+    let desc = class_of(alloc, case)?;
+    write_class(alloc, &desc)
+}
+
 #[test]
 fn writes_files(rt: HostRuntime) -> Result<(), Fail> {
     for case in &CASES {
-        let desc = class_of(rt.alloc(), case)?;
-        let file = write_class(rt.alloc(), &desc)?;
-        assert_eq!(rt; file.as_slice(), case.file);
+        let file = written(rt.alloc(), case)?;
+        assert!(rt; file.as_slice() == case.file);
     }
     Ok(())
 }
@@ -127,7 +132,7 @@ fn numbered_methods(alloc: Global, count: u32) -> Result<List<MethodDesc>, Memor
             flags: 0x0001,
             name: Text::of(alloc, name.as_bytes())?,
             descriptor: Text::of(alloc, b"()V")?,
-            attrs: List::of(Vec::new(alloc)),
+            attrs: none(alloc),
         })?;
     }
     Ok(List::of(methods))
@@ -144,21 +149,23 @@ fn class_of_methods(alloc: Global, count: u32) -> Result<ClassDesc, Memory>
         flags: 0x0021,
         name: Text::of(alloc, b"A")?,
         super_name: Some(Text::of(alloc, b"java/lang/Object")?),
-        interfaces: List::of(Vec::new(alloc)),
-        fields: List::of(Vec::new(alloc)),
+        interfaces: none(alloc),
+        fields: none(alloc),
         methods,
-        attrs: List::of(Vec::new(alloc)),
+        attrs: none(alloc),
     })
+}
+
+fn written_methods(alloc: Global, count: u32) -> Result<Vec<u8>, PoolErr> {
+    let desc = class_of_methods(alloc, count)?;
+    write_class(alloc, &desc)
 }
 
 #[test]
 fn fills_pools(rt: HostRuntime) -> Result<(), Fail> {
-    let alloc = rt.alloc();
-    let most = class_of_methods(alloc, 65_529)?;
-    let file = write_class(alloc, &most)?;
-    assert_eq!(rt; file.get(8..10), Some(b"\xff\xff".as_slice()));
-    let one_more = class_of_methods(alloc, 65_530)?;
-    let refused = write_class(alloc, &one_more).err();
-    assert_eq!(rt; refused, Some(PoolErr::PoolFull { needed: 65_535 }));
+    let file = written_methods(rt.alloc(), 65_529)?;
+    assert!(rt; file.get(8..10) == Some(b"\xff\xff".as_slice()));
+    let refused = written_methods(rt.alloc(), 65_530).err();
+    assert!(rt; refused == Some(PoolErr::PoolFull { needed: 65_535 }));
     Ok(())
 }

@@ -1,4 +1,4 @@
-//! Examples of names, descriptors and signatures: the tests of name_forms, signature_scan and descriptor_sig, in a crate of their own, so that the proofs of those are checked once.
+//! Examples of names, descriptors and signatures: the tests of name_forms, signature_scan and descriptor_sig, and of the copies of signatures in class_desc, in a crate of their own, so that the proofs of those are checked once.
 #![tactic(auto)]
 
 #[cfg(test)]
@@ -6,8 +6,12 @@ mod descriptors;
 #[cfg(test)]
 mod names;
 #[cfg(test)]
+mod nesting;
+#[cfg(test)]
 mod scanning;
 #[cfg(test)]
 mod signatures;
+#[cfg(test)]
+mod trees;
 #[cfg(test)]
 mod writing;

@@ -1,6 +1,6 @@
+use crate::nesting::nested;
 use signature_scan::SigPlace::{ClassPlace, FieldPlace, MethodPlace};
 use signature_scan::{SigPlace, Verdict, scan};
-use std::alloc::{AllocError, Global};
 use std::process::Abort;
 use std::test::Fail;
 
@@ -61,64 +61,41 @@ const BAD: [(SigPlace, &str, u32); 35] = [
 ];
 
 #[test]
-fn tells_signatures_from_other_texts(rt: HostRuntime) -> Result<(), Fail> {
+fn tells_signatures_from_other_texts(rt: HostRuntime) {
     for (place, text) in &FINE {
-        expect(&rt, text, *place, Verdict::Fine);
+        expect(&rt, text.as_bytes(), *place, Verdict::Fine);
     }
     for (place, text, at) in &BAD {
-        expect(&rt, text, *place, Verdict::BadText { at: *at });
+        expect(&rt, text.as_bytes(), *place, Verdict::BadText { at: *at });
     }
-    Ok(())
 }
 
 /// Each front of a signature begins one and is none itself.
 #[test]
-fn wants_more_behind_each_front(rt: HostRuntime) -> Result<(), Fail> {
-    let text = "<T:La/A<-TT;>.B;U::TT;>(I[La;)V^TT;".as_bytes();
+fn wants_more_behind_each_front(rt: HostRuntime) {
+    let text = b"<T:La/A<-TT;>.B;U::TT;>(I[La;)V^TT;";
     for cut in 0..text.len() {
-        let verdict = scan(&text[..cut], MethodPlace);
-        if cut == 31 {
-            assert_eq!(rt; verdict, Verdict::Fine);
-        } else {
-            assert_eq!(rt; verdict, Verdict::BadText { at: cut as u32 });
+        if cut != 31 {
+            let verdict = Verdict::BadText { at: cut as u32 };
+            expect(&rt, &text[..cut], MethodPlace, verdict);
         }
     }
-    assert_eq!(rt; scan(text, MethodPlace), Verdict::Fine);
-    Ok(())
+    expect(&rt, &text[..31], MethodPlace, Verdict::Fine);
+    expect(&rt, text, MethodPlace, Verdict::Fine);
 }
 
-/// A text with type arguments nested so deep.
-fn nested(
-    alloc: Global,
-    front: &str,
-    opening: &str,
-    depth: u32,
-    end: &str,
-) -> Result<String, AllocError> {
-    let mut text = String::from_str(alloc, front)?;
-    for _ in 0..depth {
-        text.push_str(opening)?;
-    }
-    text.push_str("*")?;
-    for _ in 0..depth {
-        text.push_str(">;")?;
-    }
-    text.push_str(end)?;
-    Ok(text)
-}
-
-fn expect(rt: &impl Abort, text: &str, place: SigPlace, verdict: Verdict) {
+fn expect(rt: &impl Abort, text: &[u8], place: SigPlace, verdict: Verdict) {
     assert!(rt; text.len() < 1_000_000);
-    assert_eq!(rt; scan(text.as_bytes(), place), verdict);
+    assert!(rt; scan(text, place) == verdict, "{text:?}");
 }
 
 /// What stands in front, for each level and behind, and where the 65th level opens.
-const NESTED: [(SigPlace, &str, &str, &str, u32); 5] = [
-    (FieldPlace, "", "LA<", "", 194),
-    (ClassPlace, "<T:", "LA<", ">LA;", 197),
-    (ClassPlace, "<T::", "[[LA<", ">LA;", 328),
-    (FieldPlace, "", "LA<*>.B<", "", 514),
-    (MethodPlace, "<T:TT;>(LA<*>;)V^", "LA<*-LB;", "", 531),
+const NESTED: [(SigPlace, &[u8], &[u8], &[u8], u32); 5] = [
+    (FieldPlace, b"", b"LA<", b"", 194),
+    (ClassPlace, b"<T:", b"LA<", b">LA;", 197),
+    (ClassPlace, b"<T::", b"[[LA<", b">LA;", 328),
+    (FieldPlace, b"", b"LA<*>.B<", b"", 514),
+    (MethodPlace, b"<T:TT;>(LA<*>;)V^", b"LA<*-LB;", b"", 531),
 ];
 
 #[test]
@@ -126,13 +103,13 @@ fn allows_64_levels_of_type_arguments(rt: HostRuntime) -> Result<(), Fail> {
     let alloc = rt.alloc();
     for (place, front, opening, end, at) in &NESTED {
         let fine = nested(alloc, front, opening, 64, end)?;
-        expect(&rt, fine.as_str(), *place, Verdict::Fine);
+        expect(&rt, &fine, *place, Verdict::Fine);
         let deep = nested(alloc, front, opening, 65, end)?;
-        expect(&rt, deep.as_str(), *place, Verdict::TooDeep { at: *at });
+        expect(&rt, &deep, *place, Verdict::TooDeep { at: *at });
         let deeper = nested(alloc, front, opening, 70, end)?;
-        expect(&rt, deeper.as_str(), *place, Verdict::TooDeep { at: *at });
+        expect(&rt, &deeper, *place, Verdict::TooDeep { at: *at });
     }
-    let bad = nested(alloc, "", "LA<", 65, "!")?;
-    expect(&rt, bad.as_str(), FieldPlace, Verdict::BadText { at: 326 });
+    let bad = nested(alloc, b"", b"LA<", 65, b"!")?;
+    expect(&rt, &bad, FieldPlace, Verdict::BadText { at: 326 });
     Ok(())
 }

@@ -1,15 +1,17 @@
 //! Texts of signatures, told as trees.
-use class_desc::{JArg, JParam, JPart, JSig, JType};
+use crate::nesting::{nested, repeated};
+use crate::trees::check_tree;
+use class_desc::JSig;
 use descriptor_sig::SigPlace::{ClassPlace, FieldPlace, MethodPlace};
 use descriptor_sig::{SigErr, SigPlace, read_signature};
 use hdr_core::Text;
-use std::alloc::{AllocError, Global};
+use std::alloc::Global;
 use std::process::Abort;
 use std::test::Fail;
 
 /// Fields: `#` is before a primitive type, `$` before a variable, the number of dimensions before an element,
 /// and a class is in braces, with its arguments in parentheses.
-const FIELDS: [(&str, &str); 38] = [
+const FIELDS: [(&str, &str); 41] = [
     ("LA;", "{A}"),
     ("La/b/C;", "{a/b/C}"),
     ("LA$B;", "{A$B}"),
@@ -57,10 +59,16 @@ const FIELDS: [(&str, &str); 38] = [
         "{A(is {B(any).C(is $T)},is $U).D}",
     ),
     ("[LA<[LB<[[I>;>;", "[1]{A(is [1]{B(is [2]#I)})}"),
+    ("[[J", "[2]#J"),
+    ("Lp/Map<-TK;*[B>;", "{p/Map(super $K,any,is [1]#B)}"),
+    (
+        "Lp/A<Lp/B;+TT;-[[I*>.C;",
+        "{p/A(is {p/B},extends $T,super [2]#I,any).C}",
+    ),
 ];
 
 /// Classes: type parameters with their class bounds, - for none, and their interface bounds, then the supertypes.
-const CLASSES: [(&str, &str); 18] = [
+const CLASSES: [(&str, &str); 21] = [
     ("LA;", "extends {A}"),
     (
         "LA;LB;LC<*>;",
@@ -85,10 +93,22 @@ const CLASSES: [(&str, &str); 18] = [
     ("<A::LB;L:LL;T:TT;>LT;", "A:-&{B} L:{L} T:$T extends {T}"),
     ("<I:Z:>LA;", "I:- Z:- extends {A}"),
     ("<*:+:>LA;LI;", "*:- +:- extends {A} implements {I}"),
+    (
+        "Ljava/lang/Enum<Llib/Level;>;Lp/I;Lp/J;",
+        "extends {java/lang/Enum(is {lib/Level})} implements {p/I} implements {p/J}",
+    ),
+    (
+        "<T::Ljava/lang/Comparable<TT;>;U:Lp/B;:Lp/I;V:>Ljava/lang/Object;",
+        "T:-&{java/lang/Comparable(is $T)} U:{p/B}&{p/I} V:- extends {java/lang/Object}",
+    ),
+    (
+        "<T:Lp/B;:Lp/I;:Lp/A<Lp/B;+TT;-[[I*>.C;E:>Lp/A<Lp/B;+TT;-[[I*>.C;Lp/I;Lp/J;",
+        "T:{p/B}&{p/I}&{p/A(is {p/B},extends $T,super [2]#I,any).C} E:- extends {p/A(is {p/B},extends $T,super [2]#I,any).C} implements {p/I} implements {p/J}",
+    ),
 ];
 
 /// Methods: type parameters, then the types of the parameters, the result and what is thrown.
-const METHODS: [(&str, &str); 13] = [
+const METHODS: [(&str, &str); 17] = [
     ("()V", "gives void"),
     ("()Z", "gives #Z"),
     ("(BCDFIJSZ)V", "#B #C #D #F #I #J #S #Z gives void"),
@@ -111,6 +131,22 @@ const METHODS: [(&str, &str); 13] = [
         "T:{E}&{I} U:$T $U gives #J throws $T throws {E}",
     ),
     ("<A:LT:TU;>()V", "A:- LT:$U gives void"),
+    (
+        "()Ljava/util/List<+Llib/Shape;>;",
+        "gives {java/util/List(extends {lib/Shape})}",
+    ),
+    (
+        "(I)Llib/Builder<TT;>.Step;",
+        "#I gives {lib/Builder(is $T).Step}",
+    ),
+    (
+        "(TT;Z)V^TE;^Lp/X;",
+        "$T #Z gives void throws $E throws {p/X}",
+    ),
+    (
+        "<T:Lp/B;:Lp/I;:Lp/A<Lp/B;+TT;-[[I*>.C;E:>(Lp/A<Lp/B;+TT;-[[I*>.C;[[I)V^TE;^Lp/X;",
+        "T:{p/B}&{p/I}&{p/A(is {p/B},extends $T,super [2]#I,any).C} E:- {p/A(is {p/B},extends $T,super [2]#I,any).C} [2]#I gives void throws $E throws {p/X}",
+    ),
 ];
 
 /// Texts that spell no signature, with the length of the longest prefix that begins one.
@@ -129,128 +165,6 @@ const BAD: [(SigPlace, &str, u32); 12] = [
     (MethodPlace, "()V^[LE;", 4),
 ];
 
-#[cycle(tell)]
-fn tell_type(alloc: Global, told: &mut String, ty: &JType) -> Result<(), AllocError> {
-    match ty {
-        JType::Void => told.push_str("void"),
-        JType::Prim(letter) => {
-            told.push_str("#")?;
-            tell_bytes(alloc, told, &[*letter])
-        }
-        JType::Var(name) => {
-            told.push_str("$")?;
-            tell_bytes(alloc, told, name.bytes())
-        }
-        JType::Array { element, dims } => {
-            told.push_str(format!(in alloc; "[{dims}]")?.as_str())?;
-            tell_type(alloc, told, element.get())
-        }
-        JType::Named(parts) => {
-            told.push_str("{")?;
-            for (i, part) in parts.items().iter().enumerate() {
-                told.push_str(if i == 0 { "" } else { "." })?;
-                tell_part(alloc, told, part)?;
-            }
-            told.push_str("}")
-        }
-    }
-}
-
-#[cycle(tell)]
-fn tell_part(alloc: Global, told: &mut String, part: &JPart) -> Result<(), AllocError> {
-    tell_bytes(alloc, told, part.name.bytes())?;
-    if part.args.items().is_empty() {
-        return Ok(());
-    }
-    for (i, arg) in part.args.items().iter().enumerate() {
-        told.push_str(if i == 0 { "(" } else { "," })?;
-        tell_argument(alloc, told, arg)?;
-    }
-    told.push_str(")")
-}
-
-#[cycle(tell)]
-fn tell_argument(alloc: Global, told: &mut String, arg: &JArg) -> Result<(), AllocError> {
-    match arg {
-        JArg::Exact(ty) => {
-            told.push_str("is ")?;
-            tell_type(alloc, told, ty)
-        }
-        JArg::Extends(ty) => {
-            told.push_str("extends ")?;
-            tell_type(alloc, told, ty)
-        }
-        JArg::Super(ty) => {
-            told.push_str("super ")?;
-            tell_type(alloc, told, ty)
-        }
-        JArg::Any => told.push_str("any"),
-    }
-}
-
-fn tell_bytes(alloc: Global, told: &mut String, bytes: &[u8]) -> Result<(), AllocError> {
-    told.push_str(String::from_utf8_lossy(alloc, bytes)?.as_str())
-}
-
-fn tell_types(
-    alloc: Global,
-    told: &mut String,
-    before: &str,
-    types: &[JType],
-    behind: &str,
-) -> Result<(), AllocError> {
-    for ty in types {
-        told.push_str(before)?;
-        tell_type(alloc, told, ty)?;
-        told.push_str(behind)?;
-    }
-    Ok(())
-}
-
-fn tell_params(alloc: Global, told: &mut String, params: &[JParam]) -> Result<(), AllocError> {
-    for param in params {
-        tell_bytes(alloc, told, param.name.bytes())?;
-        told.push_str(":")?;
-        match &param.class_bound {
-            Some(bound) => tell_type(alloc, told, bound)?,
-            None => told.push_str("-")?,
-        }
-        tell_types(alloc, told, "&", param.interface_bounds.items(), "")?;
-        told.push_str(" ")?;
-    }
-    Ok(())
-}
-
-fn tell(alloc: Global, sig: &JSig) -> Result<String, AllocError> {
-    let mut told = String::new(alloc);
-    match sig {
-        JSig::OfField(ty) => tell_type(alloc, &mut told, ty)?,
-        JSig::OfClass {
-            params,
-            super_type,
-            interfaces,
-        } => {
-            tell_params(alloc, &mut told, params.items())?;
-            told.push_str("extends ")?;
-            tell_type(alloc, &mut told, super_type)?;
-            tell_types(alloc, &mut told, " implements ", interfaces.items(), "")?;
-        }
-        JSig::OfMethod {
-            params,
-            formals,
-            ret,
-            throws,
-        } => {
-            tell_params(alloc, &mut told, params.items())?;
-            tell_types(alloc, &mut told, "", formals.items(), " ")?;
-            told.push_str("gives ")?;
-            tell_type(alloc, &mut told, ret)?;
-            tell_types(alloc, &mut told, " throws ", throws.items(), "")?;
-        }
-    }
-    Ok(told)
-}
-
 fn read(alloc: Global, text: &[u8], place: SigPlace) -> Result<JSig, SigErr> {
     let text = Text::of(alloc, text)?;
     if text.bytes().len() < 1_000_000 {
@@ -260,115 +174,90 @@ fn read(alloc: Global, text: &[u8], place: SigPlace) -> Result<JSig, SigErr> {
     }
 }
 
-/// What is read, told in words: the tree, or the error.
-fn outcome(alloc: Global, text: &[u8], place: SigPlace) -> Result<String, AllocError> {
-    match read(alloc, text, place) {
-        Ok(sig) => tell(alloc, &sig),
-        Err(err) => format!(in alloc; "{err:?}"),
-    }
-}
-
-fn expect_trees(
+fn expect_tree(
     rt: &impl Abort,
     alloc: Global,
     place: SigPlace,
-    rows: &[(&str, &str)],
+    text: &[u8],
+    tree: &str,
 ) -> Result<(), Fail> {
-    for (text, tree) in rows {
-        assert_eq!(rt; outcome(alloc, text.as_bytes(), place)?.as_str(), *tree);
+    check_tree(rt, alloc, text, read(alloc, text, place), tree.as_bytes())
+}
+
+fn expect_error(rt: &impl Abort, alloc: Global, place: SigPlace, text: &[u8], error: SigErr) {
+    assert!(rt; read(alloc, text, place).err() == Some(error), "{text:?}");
+}
+
+#[test]
+fn reads_copies_and_writes_each_form(rt: HostRuntime) -> Result<(), Fail> {
+    let alloc = rt.alloc();
+    for (place, rows) in [
+        (FieldPlace, FIELDS.as_slice()),
+        (ClassPlace, CLASSES.as_slice()),
+        (MethodPlace, METHODS.as_slice()),
+    ] {
+        for (text, tree) in rows {
+            expect_tree(&rt, alloc, place, text.as_bytes(), tree)?;
+        }
     }
     Ok(())
 }
 
 #[test]
-fn reads_each_form(rt: HostRuntime) -> Result<(), Fail> {
-    let alloc = rt.alloc();
-    expect_trees(&rt, alloc, FieldPlace, &FIELDS)?;
-    expect_trees(&rt, alloc, ClassPlace, &CLASSES)?;
-    expect_trees(&rt, alloc, MethodPlace, &METHODS)
-}
-
-#[test]
-fn refuses_other_texts(rt: HostRuntime) -> Result<(), Fail> {
-    let alloc = rt.alloc();
+fn refuses_other_texts(rt: HostRuntime) {
     for (place, text, at) in &BAD {
-        assert!(rt;
-            matches!(read(alloc, text.as_bytes(), *place), Err(SigErr::BadText { at: found }) if found == *at)
-        );
+        let error = SigErr::BadText { at: *at };
+        expect_error(&rt, rt.alloc(), *place, text.as_bytes(), error);
     }
-    Ok(())
 }
 
 /// Each front of a signature is refused at its end.
 #[test]
 fn refuses_cut_texts(rt: HostRuntime) -> Result<(), Fail> {
     let alloc = rt.alloc();
-    let text = "<T:La/A<-TT;>.B;U::TT;LV:>(I[La;)[[J".as_bytes();
+    let text = b"<T:La/A<-TT;>.B;U::TT;LV:>(I[La;)[[J";
     for cut in 0..text.len() {
-        match read(alloc, &text[..cut], MethodPlace) {
-            Err(SigErr::BadText { at }) => assert_eq!(rt; at as usize, cut),
-            _ => assert!(rt; false),
-        }
+        let error = SigErr::BadText { at: cut as u32 };
+        expect_error(&rt, alloc, MethodPlace, &text[..cut], error);
     }
-    assert_eq!(rt;
-        outcome(alloc, text, MethodPlace)?.as_str(),
-        "T:{a/A(super $T).B} U:-&$T LV:- #I [1]{a} gives [2]#J"
-    );
-    Ok(())
-}
-
-/// The text with its middle so many times.
-fn repeated(
-    alloc: Global,
-    front: &str,
-    middle: &str,
-    times: u32,
-    end: &str,
-) -> Result<String, AllocError> {
-    let mut text = String::new(alloc);
-    text.push_str(front)?;
-    for _ in 0..times {
-        text.push_str(middle)?;
-    }
-    text.push_str(end)?;
-    Ok(text)
+    let tree = "T:{a/A(super $T).B} U:-&$T LV:- #I [1]{a} gives [2]#J";
+    expect_tree(&rt, alloc, MethodPlace, text, tree)
 }
 
 /// Signatures have no limit of dimensions.
 #[test]
 fn reads_many_dimensions(rt: HostRuntime) -> Result<(), Fail> {
     let alloc = rt.alloc();
-    for dims in [254_u32, 255, 256, 1000] {
-        let text = repeated(alloc, "", "[", dims, "I")?;
-        let told = outcome(alloc, text.as_str().as_bytes(), FieldPlace)?;
-        assert_eq!(rt; told.as_str(), format!(in alloc; "[{dims}]#I")?.as_str());
+    for (dims, tree) in [
+        (254, "[254]#I"),
+        (255, "[255]#I"),
+        (256, "[256]#I"),
+        (1000, "[1000]#I"),
+    ] {
+        let text = repeated(alloc, b"", b"[", dims, b"I")?;
+        expect_tree(&rt, alloc, FieldPlace, &text, tree)?;
     }
     Ok(())
 }
 
-/// Type arguments nested so deep, in a text that begins and ends so.
-fn nested(alloc: Global, front: &str, depth: u32, end: &str) -> Result<String, AllocError> {
-    let open = repeated(alloc, front, "LA<", depth, "*")?;
-    repeated(alloc, open.as_str(), ">;", depth, end)
-}
+/// What stands in front and behind, and where the 65th level opens.
+const NESTED: [(SigPlace, &[u8], &[u8], u32); 6] = [
+    (FieldPlace, b"", b"", 194),
+    (FieldPlace, b"[", b"", 195),
+    (ClassPlace, b"<T:", b">LA;", 197),
+    (ClassPlace, b"<T::", b">LA;", 198),
+    (MethodPlace, b"(", b")V", 195),
+    (MethodPlace, b"()V^LB<*>;^", b"", 205),
+];
 
 #[test]
 fn reads_64_levels_of_type_arguments(rt: HostRuntime) -> Result<(), Fail> {
     let alloc = rt.alloc();
-    for (place, front, end, at) in [
-        (FieldPlace, "", "", 194_u32),
-        (FieldPlace, "[", "", 195),
-        (ClassPlace, "<T:", ">LA;", 197),
-        (ClassPlace, "<T::", ">LA;", 198),
-        (MethodPlace, "(", ")V", 195),
-        (MethodPlace, "()V^LB<*>;^", "", 205),
-    ] {
-        let text = nested(alloc, front, 64, end)?;
-        assert!(rt; read(alloc, text.as_str().as_bytes(), place).is_ok());
-        let text = nested(alloc, front, 65, end)?;
-        assert!(rt;
-            matches!(read(alloc, text.as_str().as_bytes(), place), Err(SigErr::TooDeep { at: found }) if found == at)
-        );
+    for (place, front, end, at) in &NESTED {
+        let fine = nested(alloc, front, b"LA<", 64, end)?;
+        assert!(rt; read(alloc, &fine, *place).is_ok(), "{fine:?}");
+        let deep = nested(alloc, front, b"LA<", 65, end)?;
+        expect_error(&rt, alloc, *place, &deep, SigErr::TooDeep { at: *at });
     }
     Ok(())
 }

@@ -193,28 +193,21 @@ const KEYWORDS: [(&str, Kw); 7] = [
     ("void", Kw::Void),
 ];
 
+fn push(tokens: &mut Vec<Token>, kind: TokenKind, line: u32) -> Result<(), Memory> {
+    tokens.push(Token { kind, line })?;
+    Ok(())
+}
+
 /// `count` class bodies in each other, each on a line of its own.
 fn nested(alloc: Global, count: u32) -> Result<Vec<Token>, Memory> {
     let mut tokens = Vec::new(alloc);
     for line in 1..=count {
-        tokens.push(Token {
-            kind: TokenKind::Keyword(Kw::Class),
-            line,
-        })?;
-        tokens.push(Token {
-            kind: word(alloc, "A")?,
-            line,
-        })?;
-        tokens.push(Token {
-            kind: TokenKind::Op(OpTok::LeftBrace),
-            line,
-        })?;
+        push(&mut tokens, TokenKind::Keyword(Kw::Class), line)?;
+        push(&mut tokens, word(alloc, "A")?, line)?;
+        push(&mut tokens, TokenKind::Op(OpTok::LeftBrace), line)?;
     }
     for line in 1..=count {
-        tokens.push(Token {
-            kind: TokenKind::Op(OpTok::RightBrace),
-            line,
-        })?;
+        push(&mut tokens, TokenKind::Op(OpTok::RightBrace), line)?;
     }
     Ok(tokens)
 }
@@ -231,16 +224,30 @@ fn number(value: u32) -> TokenKind {
     })
 }
 
-fn kind(alloc: Global, text: &str) -> Result<TokenKind, Memory> {
-    for (written, operator) in OPERATORS {
-        if written == text {
-            return Ok(TokenKind::Op(operator));
+fn operator(text: &str) -> Option<OpTok> {
+    for (written, operator) in &OPERATORS {
+        if *written == text {
+            return Some(*operator);
         }
     }
-    for (written, keyword) in KEYWORDS {
-        if written == text {
-            return Ok(TokenKind::Keyword(keyword));
+    None
+}
+
+fn keyword(text: &str) -> Option<Kw> {
+    for (written, keyword) in &KEYWORDS {
+        if *written == text {
+            return Some(*keyword);
         }
+    }
+    None
+}
+
+fn kind(alloc: Global, text: &str) -> Result<TokenKind, Memory> {
+    if let Some(operator) = operator(text) {
+        return Ok(TokenKind::Op(operator));
+    }
+    if let Some(keyword) = keyword(text) {
+        return Ok(TokenKind::Keyword(keyword));
     }
     match text.parse::<u32>() {
         Ok(value) => Ok(number(value)),
@@ -255,10 +262,7 @@ fn tokens(alloc: Global, text: &str) -> Result<Vec<Token>, Memory> {
         if word == "/" {
             line = line.saturating_add(1);
         } else {
-            tokens.push(Token {
-                kind: kind(alloc, word)?,
-                line,
-            })?;
+            push(&mut tokens, kind(alloc, word)?, line)?;
         }
     }
     Ok(tokens)
@@ -286,34 +290,49 @@ fn write(alloc: Global, segments: &[Segment], out: &mut Vec<TokenKind>) -> Resul
     Ok(())
 }
 
+/// The segments of a list, written as in `CUTS`.
+fn cut(alloc: Global, text: &str) -> Result<Vec<TokenKind>, SegErr> {
+    let segments = segments(alloc, &tokens(alloc, text)?)?;
+    let mut written = Vec::new(alloc);
+    write(alloc, segments.items(), &mut written)?;
+    Ok(written)
+}
+
 fn is_written(segments: &[TokenKind], wanted: &[Token]) -> bool {
     segments.len() == wanted.len() && segments.iter().zip(wanted).all(|(a, b)| *a == b.kind)
 }
 
+fn is_cut_to(alloc: Global, text: &str, wanted: &str) -> Result<bool, SegErr> {
+    let cut = cut(alloc, text)?;
+    let wanted = tokens(alloc, wanted)?;
+    Ok(is_written(&cut, &wanted))
+}
+
 #[test]
 fn cuts(rt: HostRuntime) -> Result<(), Fail> {
-    let alloc = rt.alloc();
-    for (text, wanted) in CUTS {
-        let mut written = Vec::new(alloc);
-        let segments = segments(alloc, &tokens(alloc, text)?)?;
-        write(alloc, segments.items(), &mut written)?;
-        assert!(rt; is_written(&written, &tokens(alloc, wanted)?), "{text}");
+    for (text, wanted) in &CUTS {
+        assert!(rt; is_cut_to(rt.alloc(), text, wanted)?, "{text}");
     }
     Ok(())
 }
 
+/// Why that many class bodies in each other have no segments.
+fn refusal_of_nested(alloc: Global, count: u32) -> Option<SegErr> {
+    match nested(alloc, count) {
+        Ok(tokens) => segments(alloc, &tokens).err(),
+        Err(Memory) => Some(SegErr::Memory),
+    }
+}
+
 #[test]
-fn refusals(rt: HostRuntime) -> Result<(), Fail> {
-    let alloc = rt.alloc();
-    for (text, line) in WRONGS {
-        let answer = segments(alloc, &tokens(alloc, text)?);
+fn refusals(rt: HostRuntime) {
+    for (text, line) in &WRONGS {
+        let refusal = cut(rt.alloc(), text).err();
         assert!(rt;
-            answer.is_err_and(|error| error == SegErr::Unbalanced { line }),
+            refusal == Some(SegErr::Unbalanced { line: *line }),
             "{text}"
         );
     }
-    assert!(rt; segments(alloc, &nested(alloc, 64)?).is_ok());
-    let deep = segments(alloc, &nested(alloc, 65)?);
-    assert!(rt; deep.is_err_and(|error| error == SegErr::TooDeep { line: 65 }));
-    Ok(())
+    assert!(rt; refusal_of_nested(rt.alloc(), 64) == None);
+    assert!(rt; refusal_of_nested(rt.alloc(), 65) == Some(SegErr::TooDeep { line: 65 }));
 }
