@@ -1,11 +1,12 @@
 //! The command `ijar`: class files to stripped class files.
-ghost use Rattle.std.specs.Prelude.{◌≡◌, ◌⊎◌, ◌≤◌, ◌^◌, ◌++◌, [], ◌∷◌, true, IfOk, IfErr, length, string_bytes, codes, Ok};
+ghost use Rattle.std.specs.Prelude.{◌≡◌, ◌⊎◌, ◌≤◌, ◌^◌, ◌++◌, [], ◌∷◌, true, IfOk, IfErr, length, string_bytes, codes, None, Ok};
 ghost use Rattle.class_desc.specs.ClassFile.{is_plain};
 ghost use Rattle.class_desc.specs.Layout.{HasNoAttributes};
 ghost use Rattle.class_desc.specs.Strip.{strip_class};
 ghost use Rattle.class_reader.specs.Reading.{class_of};
-ghost use Rattle.jheader.specs.Outcome.{written};
-ghost use Rattle.jheader.specs.Phases.{later_phases, limit_code as limit_code_of};
+ghost use Rattle.class_writer.specs.Refusal.{refusal};
+ghost use Rattle.jheader.specs.Outcome.{written, written_file};
+ghost use Rattle.jheader.specs.Phases.{later_phases, limit_code as limit_code_of, limit_diag, refused_as};
 ghost use Rattle.jheader.specs.Stops.{IsFilled, StopsOnly, held_file};
 
 use crate::read::diagnose;
@@ -64,6 +65,32 @@ fn limit_code(refused: PoolErr) -> Option<Code>
     }
 }
 
+/// The file that is written for a stripped class, which came from the class file at this path.
+fn write_stripped(
+    alloc: Global,
+    output: &str,
+    path: &str,
+    stripped: &ClassDesc,
+) -> Result<HeldFile, Stop>
+    requires bare { HasNoAttributes stripped.now }
+    requires plain { is_plain stripped.now.name ≡ true }
+    ensures written { IfOk result (λ file. held_file file ≡ written_file output.now stripped.now) }
+    ensures fine { IfOk result (λ _. refusal stripped.now ≡ None) }
+    ensures stops { IfErr result (λ stop. StopsOnly stop (λ _. ⊥) (λ list. IsFilled list × (limit_diag 0 path.now stripped.now.name (refused_as (refusal stripped.now)) ≡ list))) }
+{
+    let name = stripped.name.bytes();
+    match write_class(alloc, stripped) {
+        Ok(bytes) => Ok(HeldFile {
+            path: class_path(alloc, output, name)?,
+            bytes,
+        }),
+        Err(refused) => match limit_code(refused) {
+            Some(code) => Err(Stop::Diagnosed(diagnose(alloc, path, code, name)?)),
+            None => Err(Stop::Memory),
+        },
+    }
+}
+
 /// The file that is written for a class file.
 pub fn strip_file(alloc: Global, output: &str, file: &HeldFile) -> Result<HeldFile, Stop>
     requires { length file.now.bytes.items ≤ 2 ^ 24 }
@@ -73,15 +100,5 @@ pub fn strip_file(alloc: Global, output: &str, file: &HeldFile) -> Result<HeldFi
 {
     let class = spelled_class(alloc, file)?;
     let stripped = strip(alloc, &class)?;
-    let name = stripped.name.bytes();
-    match write_class(alloc, &stripped) {
-        Ok(bytes) => Ok(HeldFile {
-            path: class_path(alloc, output, name)?,
-            bytes,
-        }),
-        Err(refused) => match limit_code(refused) {
-            Some(code) => Err(Stop::Diagnosed(diagnose(alloc, file.path.as_str(), code, name)?)),
-            None => Err(Stop::Memory),
-        },
-    }
+    write_stripped(alloc, output, file.path.as_str(), &stripped)
 }
