@@ -5,7 +5,7 @@ ghost use Rattle.class_desc.specs.Layout.{HasNoAttributes};
 ghost use Rattle.class_desc.specs.Strip.{strip_class};
 ghost use Rattle.class_reader.specs.Reading.{class_of};
 ghost use Rattle.class_writer.specs.Refusal.{refusal};
-ghost use Rattle.jheader.specs.Outcome.{written, written_file};
+ghost use Rattle.jheader.specs.Outcome.{classes, written, written_file};
 ghost use Rattle.jheader.specs.Phases.{later_phases, limit_code as limit_code_of, limit_diag, refused_as};
 ghost use Rattle.jheader.specs.Stops.{IsFilled, StopsOnly, held_file};
 
@@ -53,6 +53,19 @@ fn spelled_class(alloc: Global, file: &HeldFile) -> Result<ClassDesc, Stop>
     }
 }
 
+/// The class of a file without what its clients don't see.
+fn stripped_class(alloc: Global, file: &HeldFile) -> Result<ClassDesc, Stop>
+    requires { length file.now.bytes.items ≤ 2 ^ 24 }
+    ensures class { IfOk result (λ stripped. classes (held_file file.now ∷ []) ≡ stripped ∷ []) }
+    ensures later { IfOk result (λ stripped. later_phases (held_file file.now ∷ []) ≡ limit_diag 0 (string_bytes file.now.path) stripped.name (refused_as (refusal stripped))) }
+    ensures bare { IfOk result (λ stripped. HasNoAttributes stripped) }
+    ensures plain { IfOk result (λ stripped. is_plain stripped.name ≡ true) }
+    ensures stops { IfErr result (λ stop. StopsOnly stop (λ _. ⊥) (λ list. IsFilled list × (later_phases (held_file file.now ∷ []) ≡ list))) }
+{
+    let class = spelled_class(alloc, file)?;
+    Ok(strip(alloc, &class)?)
+}
+
 /// The code of a refusal. Want of memory has none.
 fn limit_code(refused: PoolErr) -> Option<Code>
     ensures { result ≡ limit_code_of refused }
@@ -98,7 +111,6 @@ pub fn strip_file(alloc: Global, output: &str, file: &HeldFile) -> Result<HeldFi
     ensures fine { IfOk result (λ _. later_phases (held_file file.now ∷ []) ≡ []) }
     ensures stops { IfErr result (λ stop. StopsOnly stop (λ _. ⊥) (λ list. IsFilled list × (later_phases (held_file file.now ∷ []) ≡ list))) }
 {
-    let class = spelled_class(alloc, file)?;
-    let stripped = strip(alloc, &class)?;
+    let stripped = stripped_class(alloc, file)?;
     write_stripped(alloc, output, file.path.as_str(), &stripped)
 }
