@@ -1,11 +1,12 @@
 //! The command `ijar`: class files to stripped class files.
-ghost use Rattle.std.specs.Prelude.{◌≡◌, ◌⊎◌, ◌≤◌, ◌^◌, ◌++◌, [], ◌∷◌, true, IfOk, IfErr, length, string_bytes, codes, Ok};
+ghost use Rattle.std.specs.Prelude.{◌≡◌, ◌⊎◌, ◌≤◌, ◌^◌, ◌++◌, [], ◌∷◌, true, IfOk, IfErr, length, string_bytes, codes, None, Ok};
 ghost use Rattle.class_desc.specs.ClassFile.{is_plain};
 ghost use Rattle.class_desc.specs.Layout.{HasNoAttributes};
 ghost use Rattle.class_desc.specs.Strip.{strip_class};
 ghost use Rattle.class_reader.specs.Reading.{class_of};
-ghost use Rattle.jheader.specs.Outcome.{written};
-ghost use Rattle.jheader.specs.Phases.{later_phases, limit_code as limit_code_of};
+ghost use Rattle.class_writer.specs.Refusal.{refusal};
+ghost use Rattle.jheader.specs.Outcome.{classes, written, written_file};
+ghost use Rattle.jheader.specs.Phases.{later_phases, limit_code as limit_code_of, limit_diag, refused_as};
 ghost use Rattle.jheader.specs.Stops.{IsFilled, StopsOnly, held_file};
 
 use crate::read::diagnose;
@@ -52,6 +53,19 @@ fn spelled_class(alloc: Global, file: &HeldFile) -> Result<ClassDesc, Stop>
     }
 }
 
+/// The class of a file without what its clients don't see.
+fn stripped_class(alloc: Global, file: &HeldFile) -> Result<ClassDesc, Stop>
+    requires { length file.now.bytes.items ≤ 2 ^ 24 }
+    ensures class { IfOk result (λ stripped. classes (held_file file.now ∷ []) ≡ stripped ∷ []) }
+    ensures later { IfOk result (λ stripped. later_phases (held_file file.now ∷ []) ≡ limit_diag 0 (string_bytes file.now.path) stripped.name (refused_as (refusal stripped))) }
+    ensures bare { IfOk result (λ stripped. HasNoAttributes stripped) }
+    ensures plain { IfOk result (λ stripped. is_plain stripped.name ≡ true) }
+    ensures stops { IfErr result (λ stop. StopsOnly stop (λ _. ⊥) (λ list. IsFilled list × (later_phases (held_file file.now ∷ []) ≡ list))) }
+{
+    let class = spelled_class(alloc, file)?;
+    Ok(strip(alloc, &class)?)
+}
+
 /// The code of a refusal. Want of memory has none.
 fn limit_code(refused: PoolErr) -> Option<Code>
     ensures { result ≡ limit_code_of refused }
@@ -64,6 +78,32 @@ fn limit_code(refused: PoolErr) -> Option<Code>
     }
 }
 
+/// The file that is written for a stripped class, which came from the class file at this path.
+fn write_stripped(
+    alloc: Global,
+    output: &str,
+    path: &str,
+    stripped: &ClassDesc,
+) -> Result<HeldFile, Stop>
+    requires bare { HasNoAttributes stripped.now }
+    requires plain { is_plain stripped.now.name ≡ true }
+    ensures written { IfOk result (λ file. held_file file ≡ written_file output.now stripped.now) }
+    ensures fine { IfOk result (λ _. refusal stripped.now ≡ None) }
+    ensures stops { IfErr result (λ stop. StopsOnly stop (λ _. ⊥) (λ list. IsFilled list × (limit_diag 0 path.now stripped.now.name (refused_as (refusal stripped.now)) ≡ list))) }
+{
+    let name = stripped.name.bytes();
+    match write_class(alloc, stripped) {
+        Ok(bytes) => Ok(HeldFile {
+            path: class_path(alloc, output, name)?,
+            bytes,
+        }),
+        Err(refused) => match limit_code(refused) {
+            Some(code) => Err(Stop::Diagnosed(diagnose(alloc, path, code, name)?)),
+            None => Err(Stop::Memory),
+        },
+    }
+}
+
 /// The file that is written for a class file.
 pub fn strip_file(alloc: Global, output: &str, file: &HeldFile) -> Result<HeldFile, Stop>
     requires { length file.now.bytes.items ≤ 2 ^ 24 }
@@ -71,17 +111,6 @@ pub fn strip_file(alloc: Global, output: &str, file: &HeldFile) -> Result<HeldFi
     ensures fine { IfOk result (λ _. later_phases (held_file file.now ∷ []) ≡ []) }
     ensures stops { IfErr result (λ stop. StopsOnly stop (λ _. ⊥) (λ list. IsFilled list × (later_phases (held_file file.now ∷ []) ≡ list))) }
 {
-    let class = spelled_class(alloc, file)?;
-    let stripped = strip(alloc, &class)?;
-    let name = stripped.name.bytes();
-    match write_class(alloc, &stripped) {
-        Ok(bytes) => Ok(HeldFile {
-            path: class_path(alloc, output, name)?,
-            bytes,
-        }),
-        Err(refused) => match limit_code(refused) {
-            Some(code) => Err(Stop::Diagnosed(diagnose(alloc, file.path.as_str(), code, name)?)),
-            None => Err(Stop::Memory),
-        },
-    }
+    let stripped = stripped_class(alloc, file)?;
+    write_stripped(alloc, output, file.path.as_str(), &stripped)
 }

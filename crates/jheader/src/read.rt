@@ -1,5 +1,6 @@
 //! The way from the outside to the one class file of a job.
-ghost use Rattle.std.specs.Prelude.{◌≡◌, ◌≤◌, ◌<◌, ◌^◌, [], ◌∷◌, IfOk, IfErr, IfSome, IsSome, Contains, List, length, map, string_bytes, Some};
+ghost use Rattle.std.specs.Prelude.{◌≡◌, ◌≤◌, ◌<◌, ◌^◌, [], ◌∷◌, IfOk, IfErr, IfSome, IsSome, Contains, List, codes, length, map, nat_eq, string_bytes, Some};
+ghost use Rattle.std.specs.List.{ends_with};
 ghost use Rattle.hdr_core.specs.Held.{held_at, IsListing};
 ghost use Rattle.class_paths.specs.Paths.{File, tree, used};
 ghost use Rattle.jheader.specs.Phases.{diag_at, is_sole, reading};
@@ -25,6 +26,13 @@ pub fn diagnose(alloc: Global, path: &str, code: Code, name: &[u8]) -> Result<Ve
     Ok(list)
 }
 
+/// Whether a path names the description of a module.
+fn names_module(path: &str) -> bool
+    ensures { result ≡ ends_with nat_eq path.now (codes "module-info.class") }
+{
+    path.as_bytes().ends_with(b"module-info.class")
+}
+
 /// The one class file that is used below the root, if there is just one. Modules are not read yet.
 fn sole_path(alloc: Global, root: &str, listed: &[String]) -> Result<Option<String>, Memory>
     ensures sole { IfOk result (λ path. (held : List File) → IsListing held root.now (map string_bytes listed.now) → IsSolePath (used held root.now) path) }
@@ -34,7 +42,7 @@ fn sole_path(alloc: Global, root: &str, listed: &[String]) -> Result<Option<Stri
     let Some(path) = paths.pop_first() else {
         return Ok(None);
     };
-    if !paths.is_empty() || path.as_bytes().ends_with(b"module-info.class") {
+    if !paths.is_empty() || names_module(path.as_str()) {
         return Ok(None);
     }
     Ok(Some(path))

@@ -4,7 +4,7 @@ use hdr_core::{Diag, Memory};
 use std::alloc::{AllocError, AllocFailed};
 
 /// Why a job ends before anything is written.
-#[derive(Debug, Drop)]
+#[derive(Drop)]
 pub enum Stop {
     /// Listing or reading this root or path failed.
     Fault(String),

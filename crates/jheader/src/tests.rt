@@ -36,128 +36,126 @@ const MEMBERS_STRIPPED: &[u8] = b"\xca\xfe\xba\xbe\0\0\0\x3d\0\x07\
     \x01\0\x01A\x07\0\x01\x01\0\x10java/lang/Object\x07\0\x03\x01\0\x01m\x01\0\x03()V\
     \0\x21\0\x02\0\x04\0\0\0\0\0\x01\0\x01\0\x05\0\x06\0\0\0\0";
 
-const JOB: &str = "ijar --input in --output out";
+/// The words of a job.
+const JOB: &[&str] = &["ijar", "--input", "in", "--output", "out"];
 
-fn words_of(alloc: Global, line: &str) -> Result<Vec<String>, Fail> {
+fn words_of(alloc: Global, row: &[&str]) -> Result<Vec<String>, Fail> {
     let mut words = Vec::new(alloc);
-    for word in line.split(' ') {
-        if !word.is_empty() {
-            words.push(String::from_str(alloc, word)?)?;
-        }
+    for word in row {
+        words.push(String::from_str(alloc, word)?)?;
     }
     Ok(words)
 }
 
-fn file(alloc: Global, path: &str, bytes: &[u8]) -> Result<HeldFile, Fail> {
-    Ok(HeldFile {
-        path: String::from_str(alloc, path)?,
-        bytes: Vec::from_slice(alloc, bytes)?,
-    })
-}
-
 fn one_file(alloc: Global, path: &str, bytes: &[u8]) -> Result<Vec<HeldFile>, Fail> {
     let mut files = Vec::new(alloc);
-    files.push(file(alloc, path, bytes)?)?;
+    files.push(HeldFile {
+        path: String::from_str(alloc, path)?,
+        bytes: Vec::from_slice(alloc, bytes)?,
+    })?;
     Ok(files)
 }
 
-/// A run over objects that never fail answers no fault.
-fn run_sure<R: Threads + Sync>(
-    rt: &R,
-    alloc: Global,
-    words: &[String],
-    files: Vec<HeldFile>,
-    outs: &mut SureOuts,
-    err: &mut SureSink,
-) -> Status
-    ensures { (result ≢ Status.ReadFault) × (result ≢ Status.WriteFault) }
-{
-    let mut files = SureFiles::of(files);
-    let mut out = SureSink::of(alloc);
-    run(rt, alloc, words, &mut files, outs, &mut out, err, &NoGate)
+/// What came of a run over objects that never fail.
+#[derive(Drop)]
+struct Ran {
+    status: Status,
+    outs: SureOuts,
+    err: SureSink,
 }
 
-/// Runs the job on in/A.class of these bytes.
-fn check_done<R: Abort + Threads + Sync>(
+/// A run over objects that never fail answers no fault.
+fn run_sure<R: Threads + Sync>(rt: &R, alloc: Global, words: &[String], files: Vec<HeldFile>) -> Ran
+    ensures { (result.status ≢ Status.ReadFault) × (result.status ≢ Status.WriteFault) }
+{
+    let mut files = SureFiles::of(files);
+    let mut outs = SureOuts::of(alloc);
+    let mut out = SureSink::of(alloc);
+    let mut err = SureSink::of(alloc);
+    let status = run(
+        rt, alloc, words, &mut files, &mut outs, &mut out, &mut err, &NoGate,
+    );
+    Ran { status, outs, err }
+}
+
+/// Runs these words on one file.
+fn run_on<R: Threads + Sync>(
     rt: &R,
     alloc: Global,
+    words: &[&str],
+    path: &str,
     bytes: &[u8],
-    stripped: &[u8],
-) -> Result<(), Fail> {
-    let words = words_of(alloc, JOB)?;
-    let mut outs = SureOuts::of(alloc);
-    let mut err = SureSink::of(alloc);
-    let files = one_file(alloc, "in/A.class", bytes)?;
-    let status = run_sure(rt, alloc, &words, files, &mut outs, &mut err);
-    assert_eq!(rt; status, Status::Done);
-    assert_eq!(rt; outs.written().len(), 1);
-    assert_eq!(rt; outs.written()[0].path.as_str(), "out/A.class");
-    assert_eq!(rt; outs.written()[0].bytes.as_slice(), stripped);
-    assert!(rt; err.told().is_empty());
-    Ok(())
+) -> Result<Ran, Fail> {
+    let words = words_of(alloc, words)?;
+    Ok(run_sure(rt, alloc, &words, one_file(alloc, path, bytes)?))
+}
+
+/// The one file that was written is out/A.class of these bytes, and nothing was told.
+fn check_done<R: Abort>(rt: &R, ran: &Ran, stripped: &[u8]) {
+    assert!(rt; ran.status == Status::Done);
+    let [file] = ran.outs.written() else {
+        panic!(rt; "other than one file was written")
+    };
+    assert!(rt; file.path.as_str() == "out/A.class");
+    assert!(rt; file.bytes.as_slice() == stripped);
+    assert!(rt; ran.err.told().is_empty());
+}
+
+/// The text was told under its status, and nothing was written.
+fn check_told<R: Abort>(rt: &R, ran: &Ran, status: Status, told: &str) {
+    assert!(rt; ran.status == status);
+    assert!(rt; ran.err.told() == told.as_bytes());
+    assert!(rt; ran.outs.written().is_empty());
 }
 
 #[test]
 fn strips_class_files(rt: HostRuntime) -> Result<(), Fail> {
-    check_done(&rt, rt.alloc(), PLAIN, PLAIN_STRIPPED)?;
-    check_done(&rt, rt.alloc(), PLAIN_STRIPPED, PLAIN_STRIPPED)?;
-    check_done(&rt, rt.alloc(), MEMBERS, MEMBERS_STRIPPED)
-}
-
-/// Runs words on one file, and checks what is told. Nothing is written.
-fn check_told<R: Abort + Threads + Sync>(
-    rt: &R,
-    alloc: Global,
-    line: &str,
-    file: HeldFile,
-    status: Status,
-    told: &str,
-) -> Result<(), Fail> {
-    let words = words_of(alloc, line)?;
-    let mut files = Vec::new(alloc);
-    files.push(file)?;
-    let mut outs = SureOuts::of(alloc);
-    let mut err = SureSink::of(alloc);
-    let got = run_sure(rt, alloc, &words, files, &mut outs, &mut err);
-    assert_eq!(rt; got, status);
-    assert_eq!(rt; err.told(), told.as_bytes());
-    assert!(rt; outs.written().is_empty());
+    let rows = [
+        (PLAIN, PLAIN_STRIPPED),
+        (PLAIN_STRIPPED, PLAIN_STRIPPED),
+        (MEMBERS, MEMBERS_STRIPPED),
+    ];
+    for (bytes, stripped) in rows {
+        let ran = run_on(&rt, rt.alloc(), JOB, "in/A.class", bytes)?;
+        check_done(&rt, &ran, stripped);
+    }
     Ok(())
 }
 
 #[test]
 fn tells_words_that_are_no_job(rt: HostRuntime) -> Result<(), Fail> {
     let usage = "usage: jheader turbine|ijar|ask options\n";
-    let rows = [
-        ("", usage),
-        ("ijar --input in", usage),
+    let rows: [(&[&str], &str); 3] = [
+        (&[], usage),
+        (&["ijar", "--input", "in"], usage),
         (
-            "ijar --output out --input lib.jar",
+            &["ijar", "--output", "out", "--input", "lib.jar"],
             "archives are not read: lib.jar\n",
         ),
     ];
-    for (line, told) in rows {
-        let input = file(rt.alloc(), "in/A.class", PLAIN)?;
-        check_told(&rt, rt.alloc(), line, input, Status::Usage, told)?;
+    for (words, told) in rows {
+        let ran = run_on(&rt, rt.alloc(), words, "in/A.class", PLAIN)?;
+        check_told(&rt, &ran, Status::Usage, told);
     }
     Ok(())
 }
 
 #[test]
 fn tells_files_that_are_no_plain_class(rt: HostRuntime) -> Result<(), Fail> {
-    let told = "in/A.class:0: F0 not read in this stage\n";
     for length in [0, 1, 2, 3, 4, 5, 30, 40, 52] {
-        let input = file(rt.alloc(), "in/A.class", &PLAIN[..length])?;
-        check_told(&rt, rt.alloc(), JOB, input, Status::Diagnosed, told)?;
+        let ran = run_on(&rt, rt.alloc(), JOB, "in/A.class", &PLAIN[..length])?;
+        check_told(
+            &rt,
+            &ran,
+            Status::Diagnosed,
+            "in/A.class:0: F0 not read in this stage\n",
+        );
     }
-    let mut longer = file(rt.alloc(), "in/A.class", PLAIN)?;
-    longer.bytes.push(0)?;
-    check_told(&rt, rt.alloc(), JOB, longer, Status::Diagnosed, told)
+    Ok(())
 }
 
 #[test]
 fn tells_inputs_of_other_than_one_class(rt: HostRuntime) -> Result<(), Fail> {
-    let told = "in:0: F0 not read in this stage\n";
     let paths = [
         "in/A.java",
         "in/META-INF/A.class",
@@ -165,15 +163,22 @@ fn tells_inputs_of_other_than_one_class(rt: HostRuntime) -> Result<(), Fail> {
         "in.class",
     ];
     for path in paths {
-        let input = file(rt.alloc(), path, PLAIN)?;
-        check_told(&rt, rt.alloc(), JOB, input, Status::Diagnosed, told)?;
+        let ran = run_on(&rt, rt.alloc(), JOB, path, PLAIN)?;
+        check_told(
+            &rt,
+            &ran,
+            Status::Diagnosed,
+            "in:0: F0 not read in this stage\n",
+        );
     }
     Ok(())
 }
 
+/// A class with zeros behind it is no class, up to the length at which it isn't read any more.
 #[test]
 fn tells_files_that_are_too_long(rt: HostRuntime) -> Result<(), Fail> {
     let rows = [
+        (PLAIN.len() + 1, "in/A.class:0: F0 not read in this stage\n"),
         (16_777_216, "in/A.class:0: F0 not read in this stage\n"),
         (
             16_777_217,
@@ -181,9 +186,10 @@ fn tells_files_that_are_too_long(rt: HostRuntime) -> Result<(), Fail> {
         ),
     ];
     for (length, told) in rows {
-        let mut input = file(rt.alloc(), "in/A.class", PLAIN)?;
-        input.bytes.resize(length, 0)?;
-        check_told(&rt, rt.alloc(), JOB, input, Status::Diagnosed, told)?;
+        let mut bytes = Vec::from_slice(rt.alloc(), PLAIN)?;
+        bytes.resize(length, 0)?;
+        let ran = run_on(&rt, rt.alloc(), JOB, "in/A.class", &bytes)?;
+        check_told(&rt, &ran, Status::Diagnosed, told);
     }
     Ok(())
 }
@@ -191,19 +197,11 @@ fn tells_files_that_are_too_long(rt: HostRuntime) -> Result<(), Fail> {
 /// The calls that fail, and what comes of it.
 #[derive(Drop)]
 struct Fault<'a> {
-    files: Option<u32>,
-    outs: Option<u32>,
-    err: Option<u32>,
+    files: &'a [u32],
+    outs: &'a [u32],
+    err: &'a [u32],
     status: Status,
     told: &'a str,
-}
-
-fn list_of(alloc: Global, call: Option<u32>) -> Result<Vec<u32>, Fail> {
-    let mut calls = Vec::new(alloc);
-    if let Some(call) = call {
-        calls.push(call)?;
-    }
-    Ok(calls)
 }
 
 fn check_fault<R: Abort + Threads + Sync>(
@@ -213,54 +211,54 @@ fn check_fault<R: Abort + Threads + Sync>(
 ) -> Result<(), Fail> {
     let words = words_of(alloc, JOB)?;
     let held = one_file(alloc, "in/A.class", PLAIN)?;
-    let mut files = MemFiles::of(held, list_of(alloc, fault.files)?);
-    let mut outs = MemOuts::of(alloc, list_of(alloc, fault.outs)?);
+    let mut files = MemFiles::of(held, Vec::from_slice(alloc, fault.files)?);
+    let mut outs = MemOuts::of(alloc, Vec::from_slice(alloc, fault.outs)?);
     let mut out = MemSink::of(alloc, 7, Vec::new(alloc));
-    let mut err = MemSink::of(alloc, 7, list_of(alloc, fault.err)?);
+    let mut err = MemSink::of(alloc, 7, Vec::from_slice(alloc, fault.err)?);
     let status = run(
         rt, alloc, &words, &mut files, &mut outs, &mut out, &mut err, &NoGate,
     );
-    assert_eq!(rt; status, fault.status);
-    assert_eq!(rt; err.told(), fault.told.as_bytes());
+    assert!(rt; status == fault.status);
+    assert!(rt; err.told() == fault.told.as_bytes());
     let written = if fault.status == Status::Done { 1 } else { 0 };
-    assert_eq!(rt; outs.written().len(), written);
+    assert!(rt; outs.written().len() == written);
     Ok(())
 }
 
 #[test]
 fn answers_faults(rt: HostRuntime) -> Result<(), Fail> {
     let done = Fault {
-        files: Some(2),
-        outs: Some(1),
-        err: Some(0),
+        files: &[2],
+        outs: &[1],
+        err: &[0],
         status: Status::Done,
         told: "",
     };
     let listing = Fault {
-        files: Some(0),
-        outs: Some(0),
-        err: None,
+        files: &[0],
+        outs: &[0],
+        err: &[],
         status: Status::ReadFault,
         told: "read fault: in\n",
     };
     let reading = Fault {
-        files: Some(1),
-        outs: None,
-        err: None,
+        files: &[1],
+        outs: &[],
+        err: &[],
         status: Status::ReadFault,
         told: "read fault: in/A.class\n",
     };
     let telling = Fault {
-        files: Some(1),
-        outs: None,
-        err: Some(1),
+        files: &[1],
+        outs: &[],
+        err: &[1],
         status: Status::ReadFault,
         told: "read fa",
     };
     let putting = Fault {
-        files: None,
-        outs: Some(0),
-        err: None,
+        files: &[],
+        outs: &[0],
+        err: &[],
         status: Status::WriteFault,
         told: "",
     };
