@@ -239,6 +239,3 @@ fn write_bytes<W: Write + Drop>(mut file: W, bytes: &[u8]) -> io::Result<()> {
     }
     file.flush()
 }
-
-#[cfg(test)]
-mod tests;

@@ -7,7 +7,7 @@ use crate::files::LONGEST_FILE;
 use std::alloc::{AllocError, Global};
 
 /// A file in memory.
-#[derive(Debug, Drop)]
+#[derive(Drop)]
 pub struct HeldFile {
     pub path: String,
     pub bytes: Vec<u8>,
