@@ -178,11 +178,7 @@ fn read_pieces<R: Read + Drop>(
 }
 
 // Reads once into the buffer, puts what was read behind what is there, and says how many bytes it was.
-fn read_piece<R: Read>(
-    file: &mut R,
-    buffer: &mut [u8],
-    into: &mut Vec<u8>,
-) -> io::Result<usize>
+fn read_piece<R: Read>(file: &mut R, buffer: &mut [u8], into: &mut Vec<u8>) -> io::Result<usize>
     ensures within { IfOk result (λ count. count ≤ length buffer.old) }
     ensures behind { IfOk result (λ count. vec_len into.new ≡ vec_len into.old + count) }
 {
