@@ -2,7 +2,9 @@ ghost use Rattle.std.specs.Prelude.{◌≡◌, IfOk, IsSome, codes, string_bytes
 ghost use Rattle.hdr_core.specs.Held.{held_at};
 ghost use Rattle.hdr_core.specs.InMemory.{held_files};
 
-use hdr_core::{CallErr, FileErr, Files, HeldFile, MemFiles, MemOuts, Memory, Outs, SureFiles, SureOuts};
+use hdr_core::{
+    CallErr, FileErr, Files, HeldFile, MemFiles, MemOuts, Memory, Outs, SureFiles, SureOuts,
+};
 use std::alloc::Global;
 use std::test::Fail;
 

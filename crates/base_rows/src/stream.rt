@@ -22,11 +22,7 @@ impl Write for Slow {
 
 #[test]
 fn writes_in_parts_and_refuses_to_write_nothing(rt: HostRuntime) {
-    let table = [
-        (3, Ok(()), 7),
-        (9, Ok(()), 7),
-        (0, Err(CallErr::Failed), 0),
-    ];
+    let table = [(3, Ok(()), 7), (9, Ok(()), 7), (0, Err(CallErr::Failed), 0)];
     for (most, answer, taken) in table {
         let mut slow = Slow { most, taken: 0 };
         let written = write_whole(b"seventy", &mut StdSink::of(&mut slow));
