@@ -1,5 +1,5 @@
 -- The options, gone over one by one.
-use Rattle.std.proofs.Common.{◌≡◌, ◌≢◌, ◌⊎◌, ℕ, Bool, true, false, ◌&&◌, cond, List, [], ◌∷◌, map, refl, sym, ap, ◌∙◌, inl, inr}
+use Rattle.std.proofs.Common.{◌≡◌, ◌⊎◌, ℕ, Bool, true, false, ◌&&◌, cond, List, [], ◌∷◌, map, refl, sym, ap, ◌∙◌, inl, inr}
 use Rattle.std.specs.Prelude.{filter, Option, Some, None, option_map, bytes_eq}
 use Rattle.command_words.specs.Words.{is_value, options, values, sole, is_ijar_name, are_ijar_options}
 use Rattle.command_words.specs.Seen.{first_option}

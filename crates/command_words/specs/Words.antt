@@ -1,5 +1,5 @@
 -- What the words of the command line ask for. The words are those behind the program's name.
-use Rattle.std.specs.Prelude.{◌≡◌, ℕ, ◌==◌, ◌&&◌, ◌||◌, Bool, true, false, not, List, [], ◌∷◌, ◌++◌, length, map, filter, find, codes, nat_eq, bytes_eq, Option, Some, None, option_map, if◌then◌else◌}
+use Rattle.std.specs.Prelude.{ℕ, ◌==◌, ◌||◌, Bool, false, not, List, [], ◌∷◌, ◌++◌, map, filter, find, codes, nat_eq, bytes_eq, Option, Some, None, option_map, if◌then◌else◌}
 use Rattle.std.specs.List.{list_all, ends_with}
 
 pub data Job : Type 0 where

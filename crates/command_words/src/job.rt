@@ -5,7 +5,7 @@ ghost use Rattle.command_words.specs.Seen.{job_seen, text_seen};
 use crate::options::{are_ijar_options, path_value, sole_value};
 
 /// What the words ask for.
-#[derive(Clone, Copy, Debug, PartialEq, Eq)]
+#[derive(Clone, Copy, PartialEq, Eq)]
 pub enum Job<'a> {
     /// No job, since this word names an archive: archives are not read.
     Archive(&'a str),

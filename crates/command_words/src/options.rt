@@ -24,9 +24,10 @@ fn first_option(words: &[String]) -> Option<(&str, &str, &[String])>
     ensures words { option_seen result ≡ first_option_of (map string_bytes words.now) }
     ensures shorter { IfSome result (λ o. length o.2.now < length words.now) }
 {
-    let (name, words) = words.split_first()?;
-    let (value, words) = words.split_first()?;
-    Some((name.as_str(), value.as_str(), words))
+    match words {
+        [name, value, more @ ..] => Some((name.as_str(), value.as_str(), more)),
+        _ => None,
+    }
 }
 
 /// Whether the words are options of `ijar`, each with its value.

@@ -1,5 +1,5 @@
 -- Paths that are collected, sorted and freed of repeats are a listing.
-use Rattle.std.proofs.Common.{◌≡◌, ℕ, Bool, true, false, cond, List, [], ◌∷◌, map, filter, refl, ap, sym, ◌∙◌, subst, IsSome, Contains, arith, String, Global, ◌<◌, length, get_or}
+use Rattle.std.proofs.Common.{◌≡◌, ℕ, Bool, true, false, cond, List, [], ◌∷◌, map, filter, refl, ap, sym, ◌∙◌, subst, IsSome, Contains, arith, String, Global}
 use Rattle.std.specs.Prelude.{bytes_eq, Some, string_bytes}
 use Rattle.std.specs.List.{All, dedup, dedup_from, IsDistinct, AllByRecursion}
 use Rattle.std.specs.List.Sorted.{IsPermutation, IsSorted}
@@ -8,7 +8,6 @@ use Rattle.std.specs.Ordering.{nat_cmp, on, eq_by_cmp}
 use Rattle.std.specs.Cmp.Lexicographic.{slice_cmp, on_texts, texts_ties}
 use Rattle.std.proofs.lemmas.Cmp.{nat_list_eq_equiv}
 use Rattle.std.proofs.lemmas.List.Elements.{All-cons, All-nil, All-weaker, All-filter, All-contains, filter_passes, Contains-append_right, Contains-get_or}
-use Rattle.std.proofs.lemmas.List.{get_or-map, length-map}
 use Rattle.std.proofs.lemmas.List.Filters.{dedup_is}
 use Rattle.std.proofs.lemmas.List.Kept.{Contains-dedup, Contains-from_dedup, IsStrictlySortedBy-dedup}
 use Rattle.std.proofs.lemmas.List.Sorted.{Contains-permutation, IsPermutation-map, IsPermutation-sym}
@@ -121,8 +120,3 @@ pub is_held_listing : (files : List HeldFile) (root : List ℕ) (collected sorte
     → IsListing (held_files files) root (map string_bytes kept)
 is_held_listing files root collected sorted kept are =
     is_listing string_bytes (held_files files) root collected sorted kept (are ∙ ap (filter (is_under root)) (sym (paths_of_held files)))
-
--- A path that was listed is held, so that it may be read.
-pub listed_is_held : {X : Type 0} (text_of : X → List ℕ) (files : List (List ℕ × List ℕ)) (root : List ℕ) (paths : List X) (i : ℕ) (d : X) → IsListing files root (map text_of paths) → i < length paths → IsSome (held_at files (text_of (get_or paths i d)))
-listed_is_held text_of files root paths i d listing below =
-    listing.are_held _ (subst (Contains (map text_of paths)) (get_or-map text_of paths i d (text_of d) below) (Contains-get_or (map text_of paths) i (text_of d) (rw length-map below)))

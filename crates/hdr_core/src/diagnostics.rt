@@ -80,6 +80,3 @@ pub fn print_diags<S: Sink>(alloc: Global, list: &[Diag], sink: &mut S) -> Resul
     }
     Ok(())
 }
-
-#[cfg(test)]
-mod tests;

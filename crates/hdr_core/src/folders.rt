@@ -5,8 +5,8 @@ use crate::errors::{CallErr, FileErr};
 use crate::faults::Faults;
 use crate::files::{Files, LONGEST_FILE};
 use crate::outs::Outs;
-use std::alloc::Global;
-use std::fs::{self, File};
+use std::alloc::{AllocError, Global};
+use std::fs::{self, File, FileType};
 use std::io::{self, Error, ErrorKind, Read, Write};
 use std::path::Path;
 use std::rt;
@@ -100,7 +100,8 @@ fn list_below<R: rt::Files + AllocGlobal + Clone + Drop>(
 }
 
 fn is_absent(error: &Error) -> bool {
-    matches!(error.kind(), ErrorKind::NotFound | ErrorKind::NotADirectory)
+    let kind = error.kind();
+    kind == ErrorKind::NotFound || kind == ErrorKind::NotADirectory
 }
 
 impl Walk {
@@ -114,18 +115,32 @@ impl Walk {
     {
         for entry in fs::read_dir(rt, folder)? {
             let entry = entry?;
-            if self.left == 0 {
-                return Err(Error::from(ErrorKind::FileTooLarge));
-            }
-            self.left -= 1;
-            let kind = entry.file_type()?;
-            if kind.is_dir() {
-                self.folders
-                    .push(String::from_str(alloc, entry.path().as_str())?)?;
-            } else if kind.is_file() {
-                self.files
-                    .push(String::from_str(alloc, entry.path().as_str())?)?;
-            }
+            self.count_entry()?;
+            self.keep(alloc, entry.path().as_str(), entry.file_type()?)?;
+        }
+        Ok(())
+    }
+
+    fn count_entry(&mut self) -> io::Result<()>
+        ensures fewer { OnOk result (self.new.left + 1 ≡ self.old.left) }
+        ensures folders { self.new.folders ≡ self.old.folders }
+    {
+        if self.left == 0 {
+            return Err(Error::from(ErrorKind::FileTooLarge));
+        }
+        self.left -= 1;
+        Ok(())
+    }
+
+    // Keeps the path of a file or of a folder. All else is passed over.
+    fn keep(&mut self, alloc: Global, path: &str, kind: FileType) -> Result<(), AllocError>
+        ensures left { self.new.left ≡ self.old.left }
+        ensures folders { vec_len self.new.folders ≤ vec_len self.old.folders + 1 }
+    {
+        if kind.is_dir() {
+            self.folders.push(String::from_str(alloc, path)?)?;
+        } else if kind.is_file() {
+            self.files.push(String::from_str(alloc, path)?)?;
         }
         Ok(())
     }
@@ -140,18 +155,36 @@ fn read_file<R: rt::Files>(
 ) -> io::Result<bool>
     ensures { IfOk result (λ fits. fits ≡ nat_le (length into.new.items) LONGEST_FILE) }
 {
-    into.clear();
-    let mut file = File::open(rt, path)?;
+    let file = File::open(rt, path)?;
     buffer.resize(PIECE, 0)?;
+    read_pieces(file, buffer, into)
+}
+
+fn read_pieces<R: Read + Drop>(
+    mut file: R,
+    buffer: &mut [u8],
+    into: &mut Vec<u8>,
+) -> io::Result<bool>
+    ensures { IfOk result (λ fits. fits ≡ nat_le (length into.new.items) LONGEST_FILE) }
+{
+    into.clear();
     while into.len() <= LONGEST_FILE {
-        let room = PIECE.min(LONGEST_FILE + 1 - into.len());
-        let count = file.read(&mut buffer[..room])?;
-        if count == 0 {
+        let room = buffer.len().min(LONGEST_FILE + 1 - into.len());
+        if read_piece(&mut file, &mut buffer[..room], into)? == 0 {
             return Ok(true);
         }
-        into.extend_from_slice(&buffer[..count])?;
     }
     Ok(false)
+}
+
+// Reads once into the buffer, puts what was read behind what is there, and says how many bytes it was.
+fn read_piece<R: Read>(file: &mut R, buffer: &mut [u8], into: &mut Vec<u8>) -> io::Result<usize>
+    ensures within { IfOk result (λ count. count ≤ length buffer.old) }
+    ensures behind { IfOk result (λ count. vec_len into.new ≡ vec_len into.old + count) }
+{
+    let count = file.read(buffer)?;
+    into.extend_from_slice(&buffer[..count])?;
+    Ok(count)
 }
 
 /// Writes files into the system's folders, and makes the folders that a path needs. It doesn't say what was written.
@@ -202,6 +235,3 @@ fn write_bytes<W: Write + Drop>(mut file: W, bytes: &[u8]) -> io::Result<()> {
     }
     file.flush()
 }
-
-#[cfg(test)]
-mod tests;

@@ -6,7 +6,7 @@ pub trait Gate: Sync {
 }
 
 /// A gate that holds no one.
-#[derive(Clone, Copy, Debug)]
+#[derive(Clone, Copy)]
 pub struct NoGate;
 
 impl Gate for NoGate {

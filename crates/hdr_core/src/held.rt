@@ -1,5 +1,5 @@
 ghost use Rattle.std.specs.Prelude.{◌≡◌, ◌≢◌, ◌≤◌, ◌<◌, ◌+◌, ◌++◌, ◌∷◌, [], filter, Some, None, Err, length, map, string_bytes, IfOk, IfSome, IsSome, IsErrOf, OnOk, OnErr, MatchOption};
-ghost use Rattle.hdr_core.specs.Held.{held_at, is_under, IsListing, with_file};
+ghost use Rattle.hdr_core.specs.Held.{held_at, is_below, is_under, IsListing, with_file};
 ghost use Rattle.hdr_core.specs.InMemory.{held_files};
 
 use crate::errors::FileErr;
@@ -7,7 +7,7 @@ use crate::files::LONGEST_FILE;
 use std::alloc::{AllocError, Global};
 
 /// A file in memory.
-#[derive(Debug, Drop)]
+#[derive(Drop)]
 pub struct HeldFile {
     pub path: String,
     pub bytes: Vec<u8>,
@@ -16,10 +16,14 @@ pub struct HeldFile {
 fn lies_under(root: &[u8], path: &[u8]) -> bool
     ensures { result ≡ is_under root.now path.now }
 {
-    if !path.starts_with(root) {
-        return false;
-    }
-    match &path[root.len()..] {
+    path.starts_with(root) && begins_below(&path[root.len()..])
+}
+
+// Nothing, or what begins with a '/'.
+fn begins_below(rest: &[u8]) -> bool
+    ensures { result ≡ is_below rest.now }
+{
+    match rest {
         [] => true,
         [first, ..] => *first == b'/',
     }

@@ -43,17 +43,3 @@ impl<T: TryCopy + Drop> List<T> {
         Ok(List::of(copy))
     }
 }
-
-#[cfg(test)]
-mod tests {
-    use super::*;
-    use std::test::Fail;
-
-    #[test]
-    fn copies(rt: HostRuntime) -> Result<(), Fail> {
-        let items = vec![in rt.alloc(); Text::of(rt.alloc(), b"one")?, Text::of(rt.alloc(), b"")?]?;
-        let texts = Some(List::of(items));
-        assert_eq!(rt; texts.try_copy(rt.alloc())?, texts);
-        Ok(())
-    }
-}

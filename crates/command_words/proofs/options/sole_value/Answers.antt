@@ -1,4 +1,4 @@
-use Rattle.std.proofs.Common.{◌≡◌, ℕ, Bool, true, false, List, ◌∷◌, map, sym, subst, ◌∙◌}
+use Rattle.std.proofs.Common.{◌≡◌, ℕ, true, false, List, ◌∷◌, map, sym, subst, ◌∙◌}
 use Rattle.std.specs.Prelude.{string_bytes, bytes_eq, Option, Some, None, is_some, IfSome}
 use Rattle.std.specs.Borrow.{Bor}
 use Rattle.command_words.specs.Words.{options, values, sole}

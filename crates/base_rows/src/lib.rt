@@ -1,0 +1,19 @@
+//! Examples of words, of paths and of calls to the outside: the tests of hdr_core, command_words and class_paths, in a crate of their own, so that the proofs of those are checked once.
+#![tactic(auto)]
+
+#[cfg(test)]
+mod copies;
+#[cfg(test)]
+mod diagnostics;
+#[cfg(test)]
+mod folders;
+#[cfg(test)]
+mod in_memory;
+#[cfg(test)]
+mod odd_folder;
+#[cfg(test)]
+mod paths;
+#[cfg(test)]
+mod stream;
+#[cfg(test)]
+mod words;
