@@ -168,8 +168,8 @@ impl<'a> Reader<'a> {
         alloc: Global,
         pool: &Pool<'a>,
         count: u16,
-    ) -> Result<Vec<FieldDesc>, ReadErr>
-        ensures { Gives (λ v. v.items) result self.new (members_at as_field (field_at pool.now) [] count self.old) }
+    ) -> Result<List<FieldDesc>, ReadErr>
+        ensures { Gives (λ fields. fields) result self.new (members_at as_field (field_at pool.now) [] count self.old) }
     {
         let mut seen = SeenMembers::new(alloc);
         let mut fields = Vec::new(alloc);
@@ -183,7 +183,7 @@ impl<'a> Reader<'a> {
             )?;
             fields.push(member.into_field())?;
         }
-        Ok(fields)
+        Ok(List::of(fields))
     }
 
     #[tactic(auto, unfolding(crate::specs::Reading::form_test))]
@@ -192,8 +192,8 @@ impl<'a> Reader<'a> {
         alloc: Global,
         pool: &Pool<'a>,
         count: u16,
-    ) -> Result<Vec<MethodDesc>, ReadErr>
-        ensures { Gives (λ v. v.items) result self.new (members_at as_method (method_at pool.now) [] count self.old) }
+    ) -> Result<List<MethodDesc>, ReadErr>
+        ensures { Gives (λ methods. methods) result self.new (members_at as_method (method_at pool.now) [] count self.old) }
     {
         let mut seen = SeenMembers::new(alloc);
         let mut methods = Vec::new(alloc);
@@ -207,7 +207,7 @@ impl<'a> Reader<'a> {
             )?;
             methods.push(member.into_method())?;
         }
-        Ok(methods)
+        Ok(List::of(methods))
     }
 
     /// The fields, their count first.
@@ -216,7 +216,7 @@ impl<'a> Reader<'a> {
         ensures { Gives (λ fields. fields) result self.new (fields_at pool.now self.old) }
     {
         let count = self.u16()?;
-        Ok(List::of(self.field_list(alloc, pool, count)?))
+        self.field_list(alloc, pool, count)
     }
 
     /// The methods, their count first.
@@ -225,6 +225,6 @@ impl<'a> Reader<'a> {
         ensures { Gives (λ methods. methods) result self.new (methods_at pool.now self.old) }
     {
         let count = self.u16()?;
-        Ok(List::of(self.method_list(alloc, pool, count)?))
+        self.method_list(alloc, pool, count)
     }
 }

@@ -16,4 +16,4 @@ loop-preserved c =
     (goes_on as_field (field_at c.args.pool.now) _ c.loop.seen c.args.count c.loop.counter c.loop.self c.in_ok-member.member c.member.new.self _ c.loop-test.true c.in_ok-member.ensures.member c.loop.invariant)
 
 pub returns : goal.returns
-returns c = is_done as_field (field_at c.args.pool.now) _ c.loop.seen c.args.count c.loop.counter c.loop.self _ c.loop-test.false c.loop.invariant
+returns c = rw c.of.ensures (is_done as_field (field_at c.args.pool.now) _ c.loop.seen c.args.count c.loop.counter c.loop.self _ c.loop-test.false c.loop.invariant)
