@@ -4,14 +4,14 @@ ghost use Rattle.class_reader.specs.declared.fault.ReadErr.TheVariants.{Memory};
 use std::alloc::{AllocError, AllocFailed};
 
 /// Which check of a class file failed.
-#[derive(Clone, Copy, PartialEq, Eq)]
+#[derive(Clone, Copy, Debug, PartialEq, Eq)]
 pub enum ClassKind {
     /// The file has something that isn't read yet, or is no class file.
     NotYet,
 }
 
 /// The first check that failed, and the offset of the item that it is about.
-#[derive(Clone, Copy, PartialEq, Eq)]
+#[derive(Clone, Copy, Debug, PartialEq, Eq)]
 pub struct ClassFault {
     pub offset: u32,
     pub kind: ClassKind,
@@ -25,7 +25,7 @@ impl ClassFault {
     };
 }
 
-#[derive(Clone, Copy, PartialEq, Eq)]
+#[derive(Clone, Copy, Debug, PartialEq, Eq)]
 pub enum ReadErr {
     Fault(ClassFault),
     Memory,

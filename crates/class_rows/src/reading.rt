@@ -111,7 +111,7 @@ fn reads_many_methods(rt: HostRuntime) -> Result<(), Fail> {
         let file = class_of_methods(alloc, count)?;
         assert!(rt; file.len() <= 16_777_216);
         let read = read_class(alloc, &file).map(|class| class.methods.items().len());
-        assert!(rt; read == want);
+        assert_eq!(rt; read, want);
     }
     Ok(())
 }

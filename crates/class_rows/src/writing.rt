@@ -159,6 +159,6 @@ fn fills_pools(rt: HostRuntime) -> Result<(), Fail> {
     assert_eq!(rt; file.get(8..10), Some(b"\xff\xff".as_slice()));
     let one_more = class_of_methods(alloc, 65_530)?;
     let refused = write_class(alloc, &one_more).err();
-    assert!(rt; refused == Some(PoolErr::PoolFull { needed: 65_535 }));
+    assert_eq!(rt; refused, Some(PoolErr::PoolFull { needed: 65_535 }));
     Ok(())
 }

@@ -2,7 +2,7 @@ ghost use Rattle.std.specs.Prelude.{◌≡◌};
 ghost use Rattle.class_writer.specs.declared.error.PoolErr.TheVariants.{Memory};
 
 /// Why a description has no class file, in the order of the checks.
-#[derive(Clone, Copy, PartialEq, Eq)]
+#[derive(Clone, Copy, Debug, PartialEq, Eq)]
 pub enum PoolErr {
     /// A text has more than 65,535 bytes (JVMS 4.4.7): the first in the order of the file.
     TextTooLong { length: u64 },
