@@ -15,8 +15,8 @@ use Rattle.class_desc.specs.Pool.{Entry, ClassRef, entry_bytes, entry_of}
 use Rattle.class_desc.specs.ClassFile.{magic, object_name, NamesPlainClass, NamesSuper, NamesClasses, EachSpells, CountedSpells, FieldSpells, MethodSpells, field_key, method_key, AttributesSpell, Parts, SpellsOver, ClassSpells}
 use Rattle.class_reader.specs.declared.fault.ClassFault.{ClassFault}
 use Rattle.class_reader.specs.declared.fault.ReadErr.{ReadErr}
-use Rattle.class_reader.specs.Reading.{◌>>=◌, Read, Answers, not_yet, number_at, version_at, pool_at, class_named, checked, class_at, class_flags_at, super_at, interfaces_at, fields_at, methods_at, attributes_at, file_at, class_of}
-use Rattle.class_reader.proofs.Laws.{IsBytes, bind_ok, ok_is, Reads, reads_as, Given, reads_given, Then, reads_then, Checked, reads_checked, Either, reads_if, Never, reads_never, Made, reads_made}
+use Rattle.class_reader.specs.Reading.{◌>>=◌, Read, Answers, not_yet, number_at, version_at, pool_at, class_named, checked, class_at, class_flags_at, super_at, interfaces_at, fields_at, methods_at, attributes_at, head_at, class_over_at, file_at, class_of}
+use Rattle.class_reader.proofs.Laws.{IsBytes, bind_ok, ok_is, Reads, reads_as, reads_same, regrouped_step, Given, reads_given, Then, reads_then, Checked, reads_checked, Either, reads_if, Never, reads_never, Made, reads_made}
 use Rattle.class_reader.proofs.Numbers.{NumberSpells, reads_u16, reads_u32, reads_counted}
 use Rattle.class_reader.proofs.PoolLaws.{PoolSpells, reads_pool, Numbered, alone, passed, passes, to_class, from_class, reads_class}
 use Rattle.class_reader.proofs.Attributes.{reads_attributes}
@@ -346,15 +346,24 @@ module _ (version : ℕ × ℕ) (pool : List Entry) where
       reads_then (λ start super rest. interfaces_on flags name super rest) (reads_super pool name) (λ start super.
       reads_from_interfaces flags name super)))
 
+  -- the head read as a row of its own
+  over_is : (bytes : List ℕ) → class_over_at version pool bytes ≡ flags_on bytes
+  unfolding class_over_at head_at
+  over_is bytes =
+      regrouped_step (class_flags_at bytes) _ _ _ (λ flags.
+      regrouped_step (class_at pool flags.1) _ _ _ (λ name.
+      regrouped_step (super_at pool name.0 name.1) _ _ _ (λ super.
+      regrouped_step (interfaces_at pool super.1) _ _ _ (λ interfaces. refl))))
+
 abbrev FileParts : ClassDesc → List ℕ → Type 0
 FileParts = Then VersionSpells (λ version. Then PoolSpells (λ pool. FromFlags version pool))
 
 reads_parts : Reads file_at FileParts
 unfolding file_at
 reads_parts =
-    reads_then (λ start version rest. pool_at rest >>= λ pool. flags_on version pool.0 pool.1) reads_version (λ start version.
-    reads_then (λ start pool rest. flags_on version pool rest) reads_pool (λ start pool.
-    reads_from_flags version pool))
+    reads_then (λ start version rest. pool_at rest >>= λ pool. class_over_at version pool.0 pool.1) reads_version (λ start version.
+    reads_then (λ start pool rest. class_over_at version pool rest) reads_pool (λ start pool.
+    reads_same (over_is version pool) (reads_from_flags version pool)))
 
 joined : {A B : Type 0} {First : A → List ℕ → Type 0} {Second : A → B → List ℕ → Type 0} {last : B} {text x y : List ℕ} (s : Then First Second last text) → s.front ≡ x → s.rest ≡ y → text ≡ x ++ y
 joined {x} s front rest = s.whole ∙ ap (λ (t : List ℕ). t ++ s.rest) front ∙ ap (λ (t : List ℕ). x ++ t) rest

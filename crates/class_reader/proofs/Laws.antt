@@ -47,6 +47,18 @@ reads_as Says law to from = record {
   again = λ item text left s. law.again item text left (from item text s);
 }
 
+-- ---- a reader that gives what another gives
+pub reads_same : {A : Type 0} {read other : List ℕ → Read A} {Spells : A → List ℕ → Type 0} → ((bytes : List ℕ) → read bytes ≡ other bytes) → Reads other Spells → Reads read Spells
+reads_same same law = record {
+  takes = λ bytes item left fits e. law.takes bytes item left fits (sym (same bytes) ∙ e);
+  again = λ item text left s. same (text ++ left) ∙ law.again item text left s;
+}
+
+-- a step of a row within a row is a step of the whole row
+pub regrouped_step : {A B C : Type 0} (r : Result A ClassFault) (f : A → Result B ClassFault) (g : B → Result C ClassFault) (h : A → Result C ClassFault) → ((x : A) → (f x >>= g) ≡ h x) → ((r >>= f) >>= g) ≡ (r >>= h)
+regrouped_step (Ok x) f g h same = same x
+regrouped_step (Err fault) f g h same = refl
+
 -- ---- nothing is read
 
 abbrev pub Given : {A : Type 0} → A → A → List ℕ → Type 0

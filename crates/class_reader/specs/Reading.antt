@@ -14,6 +14,7 @@ use Rattle.class_reader.specs.declared.fault.ClassFault.{ClassFault}
 use Rattle.class_reader.specs.declared.fault.ReadErr.{ReadErr}
 use Rattle.class_reader.specs.declared.fault.ReadErr.TheVariants as errors
 use Rattle.class_reader.specs.declared.member.Member.{Member}
+use Rattle.class_reader.specs.declared.class.Head.{Head}
 use Rattle.class_reader.specs.declared.forms.Form.{Form}
 use Rattle.class_reader.specs.declared.forms.Form.TheVariants as form
 
@@ -236,32 +237,43 @@ methods_at pool bytes = do
   count ← number_at w16 bytes
   members_at as_method (method_at pool) [] count.0 count.1
 
--- the class at the front
-unfoldable pub file_at : List ℕ → Read ClassDesc
-file_at bytes = do
-  version ← version_at bytes
-  pool ← pool_at version.1
-  flags ← class_flags_at pool.1
-  name ← class_at pool.0 flags.1
-  super ← super_at pool.0 name.0 name.1
-  interfaces ← interfaces_at pool.0 super.1
-  fields ← fields_at pool.0 interfaces.1
-  methods ← methods_at pool.0 fields.1
-  attrs ← attributes_at pool.0 methods.1
+-- what stands between the pool and the fields
+unfoldable pub head_at : List Entry → List ℕ → Read Head
+head_at pool bytes = do
+  flags ← class_flags_at bytes
+  name ← class_at pool flags.1
+  super ← super_at pool name.0 name.1
+  interfaces ← interfaces_at pool super.1
+  Ok (record { flags = flags.0; name = name.0; super_name = super.0; interfaces = interfaces.0 }, interfaces.1)
+
+-- the class of this version over this pool
+unfoldable pub class_over_at : ℕ × ℕ → List Entry → List ℕ → Read ClassDesc
+class_over_at version pool bytes = do
+  head ← head_at pool bytes
+  fields ← fields_at pool head.1
+  methods ← methods_at pool fields.1
+  attrs ← attributes_at pool methods.1
   Ok (
     record {
-      minor = version.0.0;
-      major = version.0.1;
-      flags = flags.0;
-      name = name.0;
-      super_name = super.0;
-      interfaces = interfaces.0;
+      minor = version.0;
+      major = version.1;
+      flags = head.0.flags;
+      name = head.0.name;
+      super_name = head.0.super_name;
+      interfaces = head.0.interfaces;
       fields = fields.0;
       methods = methods.0;
       attrs = attrs.0;
     },
     attrs.1,
   )
+
+-- the class at the front
+unfoldable pub file_at : List ℕ → Read ClassDesc
+file_at bytes = do
+  version ← version_at bytes
+  pool ← pool_at version.1
+  class_over_at version.0 pool.0 pool.1
 
 -- the class of a whole file: no byte follows it
 unfoldable pub class_of : List ℕ → Result ClassDesc ClassFault

@@ -1,7 +1,7 @@
 ghost use Rattle.std.specs.Prelude.{◌≡◌, ℕ, ◌≤◌, ◌^◌, List, length, IfOk, Ok};
 ghost use Rattle.class_desc.specs.Names.{is_text};
 ghost use Rattle.class_desc.specs.ClassFile.{object_name, ClassSpells};
-ghost use Rattle.class_reader.specs.Reading.{Gives, Answers, AreBytes, times, version_at, class_flags_at, class_at, super_at, interfaces_at, file_at, class_of};
+ghost use Rattle.class_reader.specs.Reading.{Gives, Answers, AreBytes, times, version_at, class_flags_at, class_at, super_at, interfaces_at, head_at, class_over_at, file_at, class_of};
 
 use crate::fault::{ClassFault, ReadErr};
 use crate::forms::Form;
@@ -15,6 +15,15 @@ const MAGIC: u32 = 0xcafe_babe;
 
 /// The flag of a module (JVMS 4.1).
 const MODULE: u16 = 0x8000;
+
+/// What stands between the pool and the fields.
+#[derive(Drop)]
+pub struct Head {
+    flags: u16,
+    name: Text,
+    super_name: Option<Text>,
+    interfaces: List<Text>,
+}
 
 fn is_object(name: &[u8]) -> bool
     ensures { result ≡ is_text name.now object_name }
@@ -79,15 +88,15 @@ impl<'a> Reader<'a> {
         alloc: Global,
         pool: &Pool<'a>,
         count: u16,
-    ) -> Result<Vec<Text>, ReadErr>
-        ensures { Gives (λ v. v.items) result self.new (times (class_at pool.now) count self.old) }
+    ) -> Result<List<Text>, ReadErr>
+        ensures { Gives (λ names. names) result self.new (times (class_at pool.now) count self.old) }
     {
         let mut names = Vec::new(alloc);
         for _ in 0..count {
             let name = self.class_name(pool)?;
             names.push(Text::of(alloc, name)?)?;
         }
-        Ok(names)
+        Ok(List::of(names))
     }
 
     /// The superinterfaces, their count first.
@@ -96,7 +105,52 @@ impl<'a> Reader<'a> {
         ensures { Gives (λ names. names) result self.new (interfaces_at pool.now self.old) }
     {
         let count = self.u16()?;
-        Ok(List::of(self.class_names(alloc, pool, count)?))
+        self.class_names(alloc, pool, count)
+    }
+
+    /// The flags, the name, the superclass and the superinterfaces.
+    #[tactic(auto, unfolding(crate::specs::Reading::head_at))]
+    fn head(&mut self, alloc: Global, pool: &Pool<'a>) -> Result<Head, ReadErr>
+        ensures { Gives (λ head. head) result self.new (head_at pool.now self.old) }
+    {
+        let flags = self.class_flags()?;
+        let name = self.class_name(pool)?;
+        let super_name = self.super_name(alloc, pool, name)?;
+        let interfaces = self.interfaces(alloc, pool)?;
+        Ok(Head {
+            flags,
+            name: Text::of(alloc, name)?,
+            super_name,
+            interfaces,
+        })
+    }
+
+    /// The class over its pool, to the end of its attributes.
+    #[tactic(auto, unfolding(crate::specs::Reading::class_over_at))]
+    fn class_over(
+        &mut self,
+        alloc: Global,
+        pool: &Pool<'a>,
+        minor: u16,
+        major: u16,
+    ) -> Result<ClassDesc, ReadErr>
+        ensures { Gives (λ d. d) result self.new (class_over_at (minor, major) pool.now self.old) }
+    {
+        let head = self.head(alloc, pool)?;
+        let fields = self.fields(alloc, pool)?;
+        let methods = self.methods(alloc, pool)?;
+        let attrs = self.attributes(alloc, pool)?;
+        Ok(ClassDesc {
+            minor,
+            major,
+            flags: head.flags,
+            name: head.name,
+            super_name: head.super_name,
+            interfaces: head.interfaces,
+            fields,
+            methods,
+            attrs,
+        })
     }
 
     /// The class, to the end of its attributes.
@@ -106,24 +160,7 @@ impl<'a> Reader<'a> {
     {
         let (minor, major) = self.version()?;
         let pool = self.pool(alloc)?;
-        let flags = self.class_flags()?;
-        let name = self.class_name(&pool)?;
-        let super_name = self.super_name(alloc, &pool, name)?;
-        let interfaces = self.interfaces(alloc, &pool)?;
-        let fields = self.fields(alloc, &pool)?;
-        let methods = self.methods(alloc, &pool)?;
-        let attrs = self.attributes(alloc, &pool)?;
-        Ok(ClassDesc {
-            minor,
-            major,
-            flags,
-            name: Text::of(alloc, name)?,
-            super_name,
-            interfaces,
-            fields,
-            methods,
-            attrs,
-        })
+        self.class_over(alloc, &pool, minor, major)
     }
 }
 

@@ -1,5 +1,5 @@
 ghost use Rattle.std.specs.Prelude.{◌≡◌, [], ◌∷◌, ◌++◌, IfOk, OnOk};
-ghost use Rattle.class_reader.specs.Reading.{Answers, Gives, unseen, pass_all, attribute_at, attributes_at, form_test, signed_at, member_at, members_at, field_at, method_at, as_field, as_method, fields_at, methods_at};
+ghost use Rattle.class_reader.specs.Reading.{Answers, Gives, unseen, pass_all, attribute_at, attributes_at, form_test, signed_at, member_at, members_at, as_field, as_method, fields_at, methods_at};
 
 use crate::fault::{ClassFault, ReadErr};
 use crate::forms::Form;
@@ -20,28 +20,38 @@ pub struct Member {
     pub attrs: List<Attr>,
 }
 
-impl Member {
-    ghost use Rattle.class_reader.specs.Reading.{as_field, as_method};
+/// What a description has of a member: a field or a method.
+pub trait FromMember: Drop {
+    ghost use Rattle.class_reader.specs.declared.member.Member.{Member};
 
-    fn into_field(self) -> FieldDesc
-        ensures { result ≡ as_field self }
-    {
+    ghost described: { Member → Self };
+
+    fn from_member(member: Member) -> Self
+        ensures { result ≡ described member };
+}
+
+impl FromMember for FieldDesc {
+    ghost described = { as_field };
+
+    fn from_member(member: Member) -> FieldDesc {
         FieldDesc {
-            flags: self.flags,
-            name: self.name,
-            descriptor: self.descriptor,
-            attrs: self.attrs,
+            flags: member.flags,
+            name: member.name,
+            descriptor: member.descriptor,
+            attrs: member.attrs,
         }
     }
+}
 
-    fn into_method(self) -> MethodDesc
-        ensures { result ≡ as_method self }
-    {
+impl FromMember for MethodDesc {
+    ghost described = { as_method };
+
+    fn from_member(member: Member) -> MethodDesc {
         MethodDesc {
-            flags: self.flags,
-            name: self.name,
-            descriptor: self.descriptor,
-            attrs: self.attrs,
+            flags: member.flags,
+            name: member.name,
+            descriptor: member.descriptor,
+            attrs: member.attrs,
         }
     }
 }
@@ -162,69 +172,41 @@ impl<'a> Reader<'a> {
         })
     }
 
-    #[tactic(auto, unfolding(crate::specs::Reading::form_test))]
-    fn field_list(
+    /// As many members as that, of which none has the name and descriptor of another.
+    fn member_list<T: FromMember>(
         &mut self,
         alloc: Global,
         pool: &Pool<'a>,
+        name: Form,
+        descriptor: Form,
         count: u16,
-    ) -> Result<Vec<FieldDesc>, ReadErr>
-        ensures { Gives (λ v. v.items) result self.new (members_at as_field (field_at pool.now) [] count self.old) }
+    ) -> Result<List<T>, ReadErr>
+        ensures { Gives (λ members. members) result self.new (members_at T.described (member_at pool.now (form_test name) (form_test descriptor)) [] count self.old) }
     {
         let mut seen = SeenMembers::new(alloc);
-        let mut fields = Vec::new(alloc);
+        let mut members = Vec::new(alloc);
         for _ in 0..count {
-            let member = self.member(
-                alloc,
-                pool,
-                Form::FieldName,
-                Form::FieldDescriptor,
-                &mut seen,
-            )?;
-            fields.push(member.into_field())?;
+            let member = self.member(alloc, pool, name, descriptor, &mut seen)?;
+            members.push(T::from_member(member))?;
         }
-        Ok(fields)
-    }
-
-    #[tactic(auto, unfolding(crate::specs::Reading::form_test))]
-    fn method_list(
-        &mut self,
-        alloc: Global,
-        pool: &Pool<'a>,
-        count: u16,
-    ) -> Result<Vec<MethodDesc>, ReadErr>
-        ensures { Gives (λ v. v.items) result self.new (members_at as_method (method_at pool.now) [] count self.old) }
-    {
-        let mut seen = SeenMembers::new(alloc);
-        let mut methods = Vec::new(alloc);
-        for _ in 0..count {
-            let member = self.member(
-                alloc,
-                pool,
-                Form::MethodName,
-                Form::MethodDescriptor,
-                &mut seen,
-            )?;
-            methods.push(member.into_method())?;
-        }
-        Ok(methods)
+        Ok(List::of(members))
     }
 
     /// The fields, their count first.
-    #[tactic(auto, unfolding(crate::specs::Reading::fields_at))]
+    #[tactic(auto, unfolding(crate::specs::Reading::fields_at, crate::specs::Reading::form_test))]
     pub fn fields(&mut self, alloc: Global, pool: &Pool<'a>) -> Result<List<FieldDesc>, ReadErr>
         ensures { Gives (λ fields. fields) result self.new (fields_at pool.now self.old) }
     {
         let count = self.u16()?;
-        Ok(List::of(self.field_list(alloc, pool, count)?))
+        self.member_list(alloc, pool, Form::FieldName, Form::FieldDescriptor, count)
     }
 
     /// The methods, their count first.
-    #[tactic(auto, unfolding(crate::specs::Reading::methods_at))]
+    #[tactic(auto, unfolding(crate::specs::Reading::methods_at, crate::specs::Reading::form_test))]
     pub fn methods(&mut self, alloc: Global, pool: &Pool<'a>) -> Result<List<MethodDesc>, ReadErr>
         ensures { Gives (λ methods. methods) result self.new (methods_at pool.now self.old) }
     {
         let count = self.u16()?;
-        Ok(List::of(self.method_list(alloc, pool, count)?))
+        self.member_list(alloc, pool, Form::MethodName, Form::MethodDescriptor, count)
     }
 }

@@ -1,4 +1,6 @@
 ghost use Rattle.std.specs.Prelude.{◌≡◌, ◌-◌, map, Some, None};
+ghost use Rattle.std.specs.Option.{option_map};
+ghost use Rattle.class_desc.specs.Pool.{entry_of};
 ghost use Rattle.class_desc.specs.Pool.{other_length as length_of_other};
 ghost use Rattle.class_reader.specs.Reading.{Gives, text_entry_at, class_entry_at, other_entry_at, entry_at, times, pool_at, text_named, class_named, text_at, class_at, form_test};
 ghost use Rattle.class_reader.specs.Seen.{entry_seen, text_seen};
@@ -36,14 +38,21 @@ impl<'a> Model for Pool<'a> {
 }
 
 impl<'a> Pool<'a> {
+    /// The entry of this number: they count from 1.
+    fn entry(&self, number: u16) -> Option<PoolEntry<'a>>
+        ensures { option_map entry_seen result ≡ entry_of self.now number }
+    {
+        let at = usize::from(number).checked_sub(1)?;
+        self.entries.get(at).copied()
+    }
+
     /// The text of a CONSTANT_Utf8.
     pub fn text(&self, number: u16) -> Option<&'a [u8]>
         ensures { text_seen result ≡ text_named self.now number }
     {
-        let at = usize::from(number).checked_sub(1)?;
-        match self.entries.get(at)? {
-            PoolEntry::Utf8(text) => Some(text),
-            PoolEntry::Class(_) | PoolEntry::Other(_, _) => None,
+        match self.entry(number) {
+            Some(PoolEntry::Utf8(text)) => Some(text),
+            Some(PoolEntry::Class(_) | PoolEntry::Other(_, _)) | None => None,
         }
     }
 
@@ -51,10 +60,9 @@ impl<'a> Pool<'a> {
     pub fn class(&self, number: u16) -> Option<&'a [u8]>
         ensures { text_seen result ≡ class_named self.now number }
     {
-        let at = usize::from(number).checked_sub(1)?;
-        match self.entries.get(at)? {
-            PoolEntry::Class(name) => self.text(*name),
-            PoolEntry::Utf8(_) | PoolEntry::Other(_, _) => None,
+        match self.entry(number) {
+            Some(PoolEntry::Class(name)) => self.text(name),
+            Some(PoolEntry::Utf8(_) | PoolEntry::Other(_, _)) | None => None,
         }
     }
 }

@@ -14,4 +14,4 @@ loop-preserved c =
     (goes_on (class_at c.args.pool.now) _ c.args.count c.loop.counter c.loop.self c.in_ok-name.name.now c.class_name.new.self _ c.loop-test.true c.in_ok-name.ensures c.loop.invariant)
 
 pub returns : goal.returns
-returns c = is_done (class_at c.args.pool.now) _ c.args.count c.loop.counter c.loop.self _ c.loop-test.false c.loop.invariant
+returns c = rw c.of-2.ensures (is_done (class_at c.args.pool.now) _ c.args.count c.loop.counter c.loop.self _ c.loop-test.false c.loop.invariant)
