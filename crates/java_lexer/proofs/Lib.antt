@@ -3,6 +3,7 @@ pub mod FormLemmas
 pub mod States
 pub mod Longest
 pub mod FrontLemmas
+pub mod KeywordLemmas
 pub mod NumberLemmas
 pub mod EscapeLemmas
 pub mod CutLemmas

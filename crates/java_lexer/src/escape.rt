@@ -3,6 +3,7 @@ ghost use Rattle.std.specs.Prelude.{◌≡◌, ◌≤◌, ◌++◌, ◌∷◌, �
 ghost use Rattle.java_lexer.specs.Escapes as spec;
 ghost use Rattle.java_lexer.specs.Escapes.{unescaped_from};
 
+use crate::units::at;
 use hdr_core::Memory;
 use std::alloc::Global;
 
@@ -61,13 +62,6 @@ fn push_unescaped(plain: &mut Vec<u16>, unit: u16, after: &[u16]) -> Result<usiz
         plain.push(escape_value(after))?;
     }
     Ok(escape_length(after))
-}
-
-/// The unit at a place, or 0 where there is none.
-fn at(units: &[u16], index: usize) -> u16
-    ensures { result ≡ slice_index units.now index }
-{
-    if index < units.len() { units[index] } else { 0 }
 }
 
 fn is_octal(unit: u16) -> bool

@@ -1,9 +1,10 @@
 //! What numbers stand for.
-ghost use Rattle.std.specs.Prelude.{◌≡◌, ◌≤◌, ◌<◌, ◌-◌, length, slice_index, true, ◌+◌, ◌*◌, ◌^◌};
+ghost use Rattle.std.specs.Prelude.{◌≡◌, ◌≤◌, ◌<◌, ◌-◌, length, true, ◌+◌, ◌*◌, ◌^◌};
 ghost use Rattle.std.specs.Option.{SomeIff};
 ghost use Rattle.java_text.specs.Source.{hex_value, is_hex_digit};
 ghost use Rattle.java_lexer.specs.Numbers as spec;
 
+use crate::units::at;
 use java_token::LexLit;
 
 /// The integer literal of these units (JLS 3.10.1).
@@ -40,13 +41,6 @@ fn last(units: &[u16]) -> u16
     ensures { result ≡ spec.last units.now }
 {
     at(units, units.len().saturating_sub(1))
-}
-
-/// The unit at a place, or 0 where there is none.
-fn at(units: &[u16], index: usize) -> u16
-    ensures { result ≡ slice_index units.now index }
-{
-    if index < units.len() { units[index] } else { 0 }
 }
 
 fn radix(units: &[u16]) -> u64

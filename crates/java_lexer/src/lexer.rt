@@ -14,7 +14,7 @@ use std::alloc::Global;
 use std::marker::Model;
 
 /// Takes the bytes of a source in any pieces, and tells its tokens (JLS chapter 3).
-#[derive(Debug, Drop)]
+#[derive(Drop)]
 pub struct Lexer {
     bytes: Vec<u8>,
     standing: Standing,

@@ -15,6 +15,7 @@ mod quoted;
 mod standing;
 mod state;
 mod token;
+mod units;
 
 pub use fault::{LexErr, LexFault, LexKind};
 pub use java_token::{Kw, LexLit, OpTok, Token, TokenKind};

@@ -366,7 +366,7 @@ fn is_digit(symbol: u8) -> bool
     symbol >= b'0' && symbol <= b'9'
 }
 
-fn is_octal(symbol: u8) -> bool
+pub fn is_octal(symbol: u8) -> bool
     ensures { result ≡ machine.is_octal symbol }
 {
     symbol >= b'0' && symbol <= b'7'

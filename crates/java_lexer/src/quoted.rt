@@ -4,6 +4,7 @@ ghost use Rattle.java_lexer.specs.Machine as machine;
 
 use crate::form::Form;
 use crate::kind::Kind;
+use crate::number::is_octal;
 
 /// What the symbols of a quotation so far make of it.
 #[derive(Clone, Copy)]
@@ -204,12 +205,6 @@ fn closing(symbol: u8) -> Option<Form>
     } else {
         None
     }
-}
-
-fn is_octal(symbol: u8) -> bool
-    ensures { result ≡ machine.is_octal symbol }
-{
-    symbol >= b'0' && symbol <= b'7'
 }
 
 fn begins_escape(symbol: u8) -> bool

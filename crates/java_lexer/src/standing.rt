@@ -1,7 +1,7 @@
 use crate::fault::LexErr;
 
 /// How a lexer stands.
-#[derive(Clone, Copy, Debug)]
+#[derive(Clone, Copy)]
 pub enum Standing {
     /// It takes bytes.
     Open,

@@ -1,7 +1,7 @@
 -- One step of the translation of Unicode escapes: `out` is what has been translated, `more` what it becomes.
-use Rattle.std.proofs.Common.{◌≡◌, ℕ, zero, suc, ◌+◌, ◌-◌, ◌<◌, Bool, true, false, ◌&&◌, not, ◌==◌, List, [], ◌∷◌, ◌++◌, None, Some, length, drop, get_or, refl, sym, ◌∙◌, ap, append_assoc, append-nil, drop-cons, add-one, arith, ◌≤◌}
+use Rattle.std.proofs.Common.{◌≡◌, ℕ, zero, suc, ◌+◌, ◌-◌, ◌<◌, Bool, true, false, ◌&&◌, not, ◌==◌, List, [], ◌∷◌, ◌++◌, None, Some, length, drop, get_or, refl, sym, ◌∙◌, ap, append_assoc, append-nil, drop-cons, add-one, arith, ◌≤◌, if◌then◌else◌}
 use Rattle.std.proofs.lemmas.List.{drop_all}
-use Rattle.java_text.specs.Source.{translated_from, escape_value, escape_length}
+use Rattle.java_text.specs.Source.{translated_from, escape_value, escape_length, marks, four_digits}
 
 -- what is left from i on is a unit and what is left from i + 1 on
 pub opened : (i : ℕ) (raw : List ℕ) → i < length raw → drop i raw ≡ get_or raw i 0 ∷ drop (i + 1) raw
@@ -35,6 +35,19 @@ pub replaced : (odd : Bool) (c value n : ℕ) (out more cs : List ℕ) → more 
     → more ++ translated_from n false cs ≡ out ++ translated_from 0 odd (c ∷ cs)
 unfolding translated_from
 replaced odd c value n out more cs m is_backslash is_even v l = rw (is_backslash, is_even, l) (grown out more _ _ value m (rw v refl))
+
+not_zero : (n : ℕ) → (n ≡ 0 → ⊥) → (n == 0) ≡ false
+not_zero n h = grind (arith, h)
+
+-- no mark, and no escape
+pub no_escape : (units : List ℕ) → marks units ≡ 0 → escape_value units ≡ None
+unfolding escape_value
+no_escape units e = rw e refl
+
+-- marks, and then digits or none
+pub behind_marks : (n : ℕ) (units : List ℕ) → n ≡ marks units → (n ≡ 0 → ⊥) → four_digits (drop n units) ≡ escape_value units
+unfolding escape_value
+behind_marks n units e h = rw (← e) (sym (ap (λ b. if b then None else four_digits (drop n units)) (not_zero n h)))
 
 none_left : (n : ℕ) (odd : Bool) → translated_from n odd [] ≡ []
 unfolding translated_from

@@ -73,7 +73,6 @@ fn push_translated(
 }
 
 /// What the units behind a backslash make of it, and how many of them do.
-#[tactic(auto, unfolding(crate::specs::Source::escape_value))]
 fn escape(after: &[u16]) -> Option<(u16, usize)>
     ensures { MatchOption result (escape_value after.now ≡ None)
         (λ found. (escape_value after.now ≡ Some found.0) × (found.1 ≡ escape_length after.now)) }

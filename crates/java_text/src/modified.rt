@@ -1,5 +1,5 @@
 //! Modified UTF-8.
-ghost use Rattle.std.specs.Prelude.{◌≡◌, ◌++◌, IfOk, OnOk};
+ghost use Rattle.std.specs.Prelude.{◌≡◌, ◌<◌, ◌+◌, ◌/◌, ◌%◌, [], ◌∷◌, ◌++◌, IfOk, OnOk};
 ghost use Rattle.hdr_core.specs.ModifiedUtf8 as spec;
 
 use hdr_core::{Memory, Text};
@@ -23,12 +23,26 @@ fn push_unit(bytes: &mut Vec<u8>, unit: u16) -> Result<(), Memory>
     if 0 < unit && unit < 0x80 {
         bytes.push(unit as u8)?;
     } else if unit < 0x800 {
-        bytes.push((0xC0 + unit / 64) as u8)?;
-        bytes.push((0x80 + unit % 64) as u8)?;
+        bytes.extend_from_slice(&two_bytes(unit))?;
     } else {
-        bytes.push((0xE0 + unit / 4096) as u8)?;
-        bytes.push((0x80 + unit / 64 % 64) as u8)?;
-        bytes.push((0x80 + unit % 64) as u8)?;
+        bytes.extend_from_slice(&three_bytes(unit))?;
     }
     Ok(())
+}
+
+fn two_bytes(unit: u16) -> [u8; 2]
+    requires { unit < 0x800 }
+    ensures { result ≡ (0xC0 + unit / 64) ∷ (0x80 + unit % 64) ∷ [] }
+{
+    [(0xC0 + unit / 64) as u8, (0x80 + unit % 64) as u8]
+}
+
+fn three_bytes(unit: u16) -> [u8; 3]
+    ensures { result ≡ (0xE0 + unit / 4096) ∷ (0x80 + unit / 64 % 64) ∷ (0x80 + unit % 64) ∷ [] }
+{
+    [
+        (0xE0 + unit / 4096) as u8,
+        (0x80 + unit / 64 % 64) as u8,
+        (0x80 + unit % 64) as u8,
+    ]
 }

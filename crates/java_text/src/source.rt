@@ -12,7 +12,7 @@ use std::alloc::Global;
 use std::str;
 
 /// The text of a source.
-#[derive(Debug, Drop)]
+#[derive(Drop)]
 pub struct SourceText {
     /// Its UTF-16 units, with Unicode escapes translated, up to the first byte that is no UTF-8.
     pub units: Vec<u16>,

@@ -3,13 +3,13 @@ use crate::operator::OpTok;
 use hdr_core::Text;
 
 /// A token, and the line on which it begins, from 1.
-#[derive(Debug, Drop, PartialEq, Eq)]
+#[derive(Drop, PartialEq, Eq)]
 pub struct Token {
     pub kind: TokenKind,
     pub line: u32,
 }
 
-#[derive(Debug, Drop, PartialEq, Eq)]
+#[derive(Drop, PartialEq, Eq)]
 pub enum TokenKind {
     /// An identifier or a contextual keyword, as modified UTF-8 (JLS 3.8).
     Word(Text),
@@ -19,7 +19,7 @@ pub enum TokenKind {
 }
 
 /// A literal (JLS 3.10). `true`, `false` and `null` are keywords here.
-#[derive(Debug, Drop, PartialEq, Eq)]
+#[derive(Drop, PartialEq, Eq)]
 pub enum LexLit {
     /// `value` is None above 64 bits.
     Int {

@@ -3,7 +3,7 @@ use java_token::Token;
 
 /// What stands between neighbouring ends of a list of tokens: a declaration without its body.
 #[cycle(segment)]
-#[derive(Debug, Drop)]
+#[derive(Drop)]
 pub struct Segment {
     /// The tokens before the end. Behind a `=` outside brackets each group in braces is its two braces alone.
     pub head: List<Token>,
@@ -12,7 +12,7 @@ pub struct Segment {
 
 /// How a segment ends.
 #[cycle(segment)]
-#[derive(Debug, Drop)]
+#[derive(Drop)]
 pub enum SegEnd {
     Semi,
     /// A class body, cut too.

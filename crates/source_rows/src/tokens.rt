@@ -33,8 +33,8 @@ fn kinds(alloc: Global) -> Result<Vec<TokenKind>, Memory> {
 fn copies_tokens(rt: HostRuntime) -> Result<(), Fail> {
     for kind in kinds(rt.alloc())? {
         let token = Token { kind, line: 7 };
-        assert_eq!(rt; &token.copy(rt.alloc())?, &token);
-        assert_eq!(rt; &token.try_copy(rt.alloc())?, &token);
+        assert!(rt; token.copy(rt.alloc())? == token);
+        assert!(rt; token.try_copy(rt.alloc())? == token);
     }
     Ok(())
 }
