@@ -39,9 +39,7 @@ fn write_sig(out: &mut Vec<u8>, sig: &JSig) -> Result<(), Memory>
             throws,
         } => {
             write_params(out, params.items())?;
-            put(out, b'(')?;
-            write_types(out, formals.items())?;
-            put(out, b')')?;
+            write_formals(out, formals.items())?;
             write_type(out, ret)?;
             write_each_after(out, b'^', throws.items())
         }
@@ -89,6 +87,15 @@ fn write_types(out: &mut Vec<u8>, types: &[JType]) -> Result<(), Memory>
         write_type(out, ty)?;
     }
     Ok(())
+}
+
+/// Writes the types of a method's parameters, with their parentheses.
+fn write_formals(out: &mut Vec<u8>, formals: &[JType]) -> Result<(), Memory>
+    ensures { OnOk result (out.new.items ≡ out.old.items ++ (codes "(" ++ (flat_map type_text formals.now ++ codes ")"))) }
+{
+    put(out, b'(')?;
+    write_types(out, formals)?;
+    put(out, b')')
 }
 
 /// Writes each type behind a mark of its own.
