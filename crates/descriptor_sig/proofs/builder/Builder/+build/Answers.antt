@@ -1,4 +1,4 @@
-use Rattle.std.proofs.Common.{◌∙◌, ap, sym, refl, length, [], ◌∷◌, ◌++◌, ◌+◌, arith}
+use Rattle.std.proofs.Common.{◌∙◌, ap, sym, refl, length, ◌∷◌, ◌+◌, arith}
 use Rattle.class_desc.specs.declared.types.JType.TheVariants as type
 use Rattle.descriptor_sig.specs.Standing.{begins_with}
 use Rattle.std.proofs.lemmas.Result.{err_from_is_err_and}
