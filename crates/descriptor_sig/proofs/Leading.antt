@@ -69,13 +69,9 @@ behind done later = done ++ later
 abbrev pub cons : {T : Type 0} → T → List T → List T
 cons item items = item ∷ items
 
--- the first item is done
-pub first_done : {T : Type 0} {From To : List T → List ℕ → List ℕ → Type 0} {Stands : T → List ℕ → List ℕ → Type 0} {bytes rest left : List ℕ} {x : T} → Splits cons From Stands To bytes rest → Builds Stands rest (Ok x) left → (done : List T) → done ≡ x ∷ [] → Leads (behind done) From To bytes left
-first_done {T} {From} {To} {Stands} {bytes} {rest} {left} {x} h b done is = subst (λ items. Leads (behind items) From To bytes left) (sym is) (splits_ok h b)
-
 -- one more item of a list is done
-pub one_more : {T : Type 0} {From To : List T → List ℕ → List ℕ → Type 0} {Stands : T → List ℕ → List ℕ → Type 0} {bytes middle rest left : List ℕ} {x : T} (done : List T) → Leads (behind done) From To bytes middle → Splits cons To Stands To middle rest → Builds Stands rest (Ok x) left → (more_done : List T) → more_done ≡ done ++ (x ∷ []) → Leads (behind more_done) From To bytes left
-one_more {T} {From} {To} {Stands} {bytes} {middle} {rest} {left} {x} done h k b more_done is = record {
+pub one_more : {T : Type 0} {From To Next : List T → List ℕ → List ℕ → Type 0} {Stands : T → List ℕ → List ℕ → Type 0} {bytes middle rest left : List ℕ} {x : T} (done : List T) → Leads (behind done) From To bytes middle → Splits cons To Stands Next middle rest → Builds Stands rest (Ok x) left → (more_done : List T) → more_done ≡ done ++ (x ∷ []) → Leads (behind more_done) From Next bytes left
+one_more {T} {From} {To} {Next} {Stands} {bytes} {middle} {rest} {left} {x} done h k b more_done is = record {
   leads = λ value more s.
       let l = h.leads value more s in
       let m = (splits_ok k b).leads l.0 more l.2 in
@@ -83,8 +79,8 @@ one_more {T} {From} {To} {Stands} {bytes} {middle} {rest} {left} {x} done h k b 
 }
 
 -- one more item could not be read
-pub one_fails : {T : Type 0} {From To : List T → List ℕ → List ℕ → Type 0} {Stands : T → List ℕ → List ℕ → Type 0} {bytes middle rest left : List ℕ} {e : SigErr} (done : List T) → Leads (behind done) From To bytes middle → Splits cons To Stands To middle rest → Builds Stands rest (Err e) left → (r : Result (List T) SigErr) → IsPassed r e → Builds From bytes r left
-one_fails {T} {From} {To} {Stands} {bytes} {middle} {rest} {left} {e} done h k b r p = leads_err h (splits_err k b (Err e) (e, refl, refl)) r p
+pub one_fails : {T : Type 0} {From To Next : List T → List ℕ → List ℕ → Type 0} {Stands : T → List ℕ → List ℕ → Type 0} {bytes middle rest left : List ℕ} {e : SigErr} (done : List T) → Leads (behind done) From To bytes middle → Splits cons To Stands Next middle rest → Builds Stands rest (Err e) left → (r : Result (List T) SigErr) → IsPassed r e → Builds From bytes r left
+one_fails {T} {From} {To} {Next} {Stands} {bytes} {middle} {rest} {left} {e} done h k b r p = leads_err h (splits_err k b (Err e) (e, refl, refl)) r p
 
 -- no item is left
 pub all_done : {T : Type 0} {From To : List T → List ℕ → List ℕ → Type 0} {bytes rest left : List ℕ} {done : List T} → Leads (behind done) From To bytes rest → Builds To rest (Ok []) left → (all : List T) → all ≡ done → Builds From bytes (Ok all) left

@@ -11,7 +11,7 @@ use Rattle.class_desc.specs.Nesting.{part_levels, arg_levels, args_levels, flat}
 use Rattle.class_desc.proofs.Layers.{text_part, form_part, levels_part}
 use Rattle.descriptor_sig.specs.Standing.{Builds, Shallow, Row, RowTo, Marked, Takes, begins_with, begins_among, is_plain_name, NameStands, PartStands, PartsStand, ArgsStand}
 use Rattle.descriptor_sig.proofs.Bytes.{both, rest_of_cons, identifier_is_plain, binary_is_plain}
-use Rattle.descriptor_sig.proofs.Leading.{Splits, cons}
+use Rattle.descriptor_sig.proofs.Leading.{Leads, Splits, cons, behind}
 use Rattle.descriptor_sig.proofs.Shallows.{shallow_left, shallow_right, shallow_tail}
 
 -- ---- one behind the other
@@ -63,13 +63,26 @@ parts_split depth bytes = record { splits = by } where
         later_row depth later more f.1 (shallow_right (part_levels part depth) _ levels),
       )
 
-pub part_next : (depth : ℕ) (bytes rest : List ℕ) → bytes ≡ 46 ∷ rest → Splits cons (PartsRow depth) (PartStands depth) (PartsRow depth) bytes rest
+part_next : (depth : ℕ) (bytes rest : List ℕ) → bytes ≡ 46 ∷ rest → Splits cons (PartsRow depth) (PartStands depth) (PartsRow depth) bytes rest
 part_next depth bytes rest dot = record { splits = by } where
   by : (parts : List JPart) (more : List ℕ) → PartsRow depth parts bytes more → (part : JPart) × (later : List JPart) × (middle : List ℕ) × (cons part later ≡ parts) × PartStands depth part rest middle × PartsRow depth later middle more
   by [] more s = absurd (false≢true (sym (ap (begins_with 46) s) ∙ ap (begins_with 46) dot))
   by (part ∷ later) more s =
       let m = s.1 in
       (part, later, s.0, refl, subst (λ b. PartStands depth part b s.0) (sym (rest_of_cons (sym dot ∙ m.front))) m.stands, s.2)
+
+-- a part, and the others behind it
+abbrev pub PartsHead : ℕ → List JPart → List ℕ → List ℕ → Type 0
+PartsHead depth parts bytes more = (part : JPart) × (later : List JPart) × (middle : List ℕ) × (cons part later ≡ parts) × PartStands depth part bytes middle × PartsRow depth later middle more
+
+pub head_splits : (depth : ℕ) (bytes : List ℕ) → Splits cons (PartsHead depth) (PartStands depth) (PartsRow depth) bytes bytes
+head_splits depth bytes = record { splits = λ parts more s. s }
+
+pub parts_lead : (depth : ℕ) (bytes : List ℕ) (none : List JPart) → none ≡ [] → Leads (behind none) (PartsStand depth) (PartsHead depth) bytes bytes
+parts_lead depth bytes none is = record { leads = λ parts more s. (parts, ap (λ items. items ++ parts) is, (parts_split depth bytes).splits parts more s) }
+
+pub dot_leads : (depth : ℕ) (bytes rest : List ℕ) → bytes ≡ 46 ∷ rest → Leads (λ parts. parts) (PartsRow depth) (PartsHead depth) bytes rest
+dot_leads depth bytes rest dot = record { leads = λ parts more s. (parts, refl, (part_next depth bytes rest dot).splits parts more s) }
 
 pub parts_end : (depth : ℕ) (bytes same left : List ℕ) (r : Option ℕ) → (begins_with 46 bytes ≡ false) × (same ≡ bytes) → Takes same r left → Builds (PartsRow depth) bytes (Ok []) left
 parts_end depth bytes same left r no_dot takes = record { gives = λ parts more s. by r takes parts more s } where

@@ -175,12 +175,13 @@ impl<'a> Builder<'a> {
         ensures shrinks { OnOk result (length self.new ≤ length self.old) }
     {
         let mut parts = Vec::new(alloc);
-        parts.push(self.part(alloc, depth)?)?;
-        while self.eats(b'.') {
+        loop {
             parts.push(self.part(alloc, depth)?)?;
+            if !self.eats(b'.') {
+                self.next();
+                return Ok(List::of(parts));
+            }
         }
-        self.next();
-        Ok(List::of(parts))
     }
 
     #[cycle(build)]
@@ -198,13 +199,13 @@ impl<'a> Builder<'a> {
         ensures built { Builds (ArgsStand depth) self.old result self.new }
         ensures shrinks { OnOk result (length self.new ≤ length self.old) }
     {
-        let mut args = Vec::new(alloc);
         if !self.eats(b'<') {
-            return Ok(List::of(args));
+            return Ok(List::of(Vec::new(alloc)));
         }
         if depth >= NESTING_LIMIT {
             return Err(UNMET);
         }
+        let mut args = Vec::new(alloc);
         while !self.eats(b'>') {
             args.push(self.argument(alloc, depth + 1)?)?;
         }

@@ -67,10 +67,10 @@ impl<'a> Builder<'a> {
     fn parameters(&mut self, alloc: Global) -> Result<List<JParam>, SigErr>
         ensures { Builds ParamsStand self.old result self.new }
     {
-        let mut params = Vec::new(alloc);
         if !self.eats(b'<') {
-            return Ok(List::of(params));
+            return Ok(List::of(Vec::new(alloc)));
         }
+        let mut params = Vec::new(alloc);
         while !self.eats(b'>') {
             params.push(self.parameter(alloc)?)?;
         }

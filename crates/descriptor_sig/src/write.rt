@@ -1,4 +1,4 @@
-ghost use Rattle.std.specs.Prelude.{◌≡◌, ℕ, ◌∷◌, [], ◌++◌, IfOk, OnOk, map, replicate};
+ghost use Rattle.std.specs.Prelude.{◌≡◌, ℕ, ◌∷◌, [], ◌++◌, IfOk, OnOk, codes, map, replicate};
 ghost use Rattle.std.specs.List.{concat, flat_map};
 ghost use Rattle.class_desc.specs.Types.{type_text, part_text, arg_text, parts_text, args_text, bound_text, param_text, params_text, signature_text};
 ghost use Rattle.class_desc.specs.Signature.{Place, IsSignature, SignatureSpells};
@@ -39,14 +39,19 @@ fn write_sig(out: &mut Vec<u8>, sig: &JSig) -> Result<(), Memory>
             throws,
         } => {
             write_params(out, params.items())?;
-            out.push(b'(')?;
-            write_types(out, formals.items())?;
-            out.push(b')')?;
+            write_formals(out, formals.items())?;
             write_type(out, ret)?;
             write_each_after(out, b'^', throws.items())
         }
         JSig::OfField(ty) => write_type(out, ty),
     }
+}
+
+fn put(out: &mut Vec<u8>, byte: u8) -> Result<(), Memory>
+    ensures { OnOk result (out.new.items ≡ out.old.items ++ (byte ∷ [])) }
+{
+    out.push(byte)?;
+    Ok(())
 }
 
 /// Writes type parameters, between `<` and `>` where there are some.
@@ -56,12 +61,11 @@ fn write_params(out: &mut Vec<u8>, params: &[JParam]) -> Result<(), Memory>
     if params.is_empty() {
         return Ok(());
     }
-    out.push(b'<')?;
+    put(out, b'<')?;
     for param in params {
         write_param(out, param)?;
     }
-    out.push(b'>')?;
-    Ok(())
+    put(out, b'>')
 }
 
 /// Writes a type parameter. The `:` of the class bound stands there without one too.
@@ -69,7 +73,7 @@ fn write_param(out: &mut Vec<u8>, param: &JParam) -> Result<(), Memory>
     ensures { OnOk result (out.new.items ≡ out.old.items ++ param_text param.now) }
 {
     out.extend_from_slice(param.name.bytes())?;
-    out.push(b':')?;
+    put(out, b':')?;
     if let Some(bound) = &param.class_bound {
         write_type(out, bound)?;
     }
@@ -85,14 +89,40 @@ fn write_types(out: &mut Vec<u8>, types: &[JType]) -> Result<(), Memory>
     Ok(())
 }
 
+/// Writes the types of a method's parameters, with their parentheses.
+fn write_formals(out: &mut Vec<u8>, formals: &[JType]) -> Result<(), Memory>
+    ensures { OnOk result (out.new.items ≡ out.old.items ++ (codes "(" ++ (flat_map type_text formals.now ++ codes ")"))) }
+{
+    put(out, b'(')?;
+    write_types(out, formals)?;
+    put(out, b')')
+}
+
 /// Writes each type behind a mark of its own.
 fn write_each_after(out: &mut Vec<u8>, mark: u8, types: &[JType]) -> Result<(), Memory>
     ensures { OnOk result (out.new.items ≡ out.old.items ++ flat_map (λ ty. mark ∷ type_text ty) types.now) }
 {
     for ty in types {
-        out.push(mark)?;
+        put(out, mark)?;
         write_type(out, ty)?;
     }
+    Ok(())
+}
+
+/// Writes a type variable, with its `;`.
+fn write_variable(out: &mut Vec<u8>, name: &Text) -> Result<(), Memory>
+    ensures { OnOk result (out.new.items ≡ out.old.items ++ (codes "T" ++ (name.now ++ codes ";"))) }
+{
+    put(out, b'T')?;
+    out.extend_from_slice(name.bytes())?;
+    put(out, b';')
+}
+
+/// Writes the dimensions of an array.
+fn write_brackets(out: &mut Vec<u8>, dims: u32) -> Result<(), Memory>
+    ensures { OnOk result (out.new.items ≡ out.old.items ++ replicate dims 91) }
+{
+    out.resize(out.len() + dims as usize, b'[')?;
     Ok(())
 }
 
@@ -101,28 +131,16 @@ fn write_type(out: &mut Vec<u8>, ty: &JType) -> Result<(), Memory>
     ensures { OnOk result (out.new.items ≡ out.old.items ++ type_text ty.now) }
 {
     match ty {
-        JType::Void => {
-            out.push(b'V')?;
-            Ok(())
-        }
-        JType::Prim(letter) => {
-            out.push(*letter)?;
-            Ok(())
-        }
+        JType::Void => put(out, b'V'),
+        JType::Prim(letter) => put(out, *letter),
         JType::Named(parts) => {
-            out.push(b'L')?;
+            put(out, b'L')?;
             write_parts(out, parts.items())?;
-            out.push(b';')?;
-            Ok(())
+            put(out, b';')
         }
-        JType::Var(name) => {
-            out.push(b'T')?;
-            out.extend_from_slice(name.bytes())?;
-            out.push(b';')?;
-            Ok(())
-        }
+        JType::Var(name) => write_variable(out, name),
         JType::Array { element, dims } => {
-            out.resize(out.len() + *dims as usize, b'[')?;
+            write_brackets(out, *dims)?;
             write_type(out, element.get())
         }
     }
@@ -138,7 +156,7 @@ fn write_parts(out: &mut Vec<u8>, parts: &[JPart]) -> Result<(), Memory>
     };
     write_part(out, first)?;
     for part in later {
-        out.push(b'.')?;
+        put(out, b'.')?;
         write_part(out, part)?;
     }
     Ok(())
@@ -160,12 +178,11 @@ fn write_args(out: &mut Vec<u8>, args: &[JArg]) -> Result<(), Memory>
     if args.is_empty() {
         return Ok(());
     }
-    out.push(b'<')?;
+    put(out, b'<')?;
     for arg in args {
         write_arg(out, arg)?;
     }
-    out.push(b'>')?;
-    Ok(())
+    put(out, b'>')
 }
 
 #[cycle(writing)]
@@ -175,16 +192,13 @@ fn write_arg(out: &mut Vec<u8>, arg: &JArg) -> Result<(), Memory>
     match arg {
         JArg::Exact(ty) => write_type(out, ty),
         JArg::Extends(ty) => {
-            out.push(b'+')?;
+            put(out, b'+')?;
             write_type(out, ty)
         }
         JArg::Super(ty) => {
-            out.push(b'-')?;
+            put(out, b'-')?;
             write_type(out, ty)
         }
-        JArg::Any => {
-            out.push(b'*')?;
-            Ok(())
-        }
+        JArg::Any => put(out, b'*'),
     }
 }

@@ -41,17 +41,17 @@ abbrev pub depth_behind : Bool → ℕ → ℕ → ℕ
 depth_behind true depth b = depth
 depth_behind false depth b = if b == 60 then suc depth else (if b == 62 then one_less depth else depth)
 
--- what is told of the next state
-abbrev told : Option State → Option (Bool × ℕ)
-told None = None
-told (Some s) = Some (is_start s, depth_of s)
+-- whether the next state is a start, and its depth; where there is none, what is expected
+abbrev told : Bool × ℕ → Option State → Bool × ℕ
+told expected None = expected
+told expected (Some t) = (is_start t, depth_of t)
 
-abbrev expected : State → ℕ → Option State → Option (Bool × ℕ)
-expected s b None = None
-expected s b (Some next) = Some (false, depth_behind (is_start s) (depth_of s) b)
+-- no start, at the depth behind the byte
+abbrev expected : State → ℕ → Bool × ℕ
+expected s b = (false, depth_behind (is_start s) (depth_of s) b)
 
 abbrev Tabled : State → Type 0
-Tabled s = map (λ b. told (next s b)) (below 256) ≡ map (λ b. expected s b (next s b)) (below 256)
+Tabled s = map (λ b. told (expected s b) (next s b)) (below 256) ≡ map (expected s) (below 256)
 
 type_tabled : (w : Wanted) (a : Around) (depth : ℕ) → Tabled (state.Within (part.Type w) a depth)
 type_tabled wanted.AnyResult a depth = refl
@@ -106,13 +106,9 @@ pub record Next (s : State) (b : ℕ) (t : State) : Type 0 where
   pub goes : is_start t ≡ false
   pub depth : depth_of t ≡ depth_behind (is_start s) (depth_of s) b
 
-told_is : (x y : Bool × ℕ) → Some x ≡ Some y → x ≡ y
-told_is x y e = cc
-
 pub next_told : (s : State) (b : ℕ) (t : State) → b < 256 → next s b ≡ Some t → Next s b t
 next_told s b t h e =
-    let f = same_below (λ b. told (next s b)) (λ b. expected s b (next s b)) 256 b (state_tabled s) h in
-    let p = told_is (is_start t, depth_of t) (false, depth_behind (is_start s) (depth_of s) b) (sym (ap told e) ∙ f ∙ ap (expected s b) e) in
+    let p = ap (told (expected s b)) (sym e) ∙ same_below (λ b. told (expected s b) (next s b)) (expected s) 256 b (state_tabled s) h in
     record { goes = ap (λ (x : Bool × ℕ). x.0) p; depth = ap (λ (x : Bool × ℕ). x.1) p }
 
 rises : (start : Bool) (depth b : ℕ) → depth_behind start depth b ≤ depth + 1

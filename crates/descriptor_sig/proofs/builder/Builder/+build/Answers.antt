@@ -1,10 +1,10 @@
-use Rattle.std.proofs.Common.{◌∙◌, ap, sym, refl, length, [], ◌∷◌, ◌++◌, ◌+◌, arith}
+use Rattle.std.proofs.Common.{◌∙◌, ap, sym, refl, length, ◌∷◌, ◌+◌, arith}
 use Rattle.class_desc.specs.declared.types.JType.TheVariants as type
 use Rattle.descriptor_sig.specs.Standing.{begins_with}
 use Rattle.std.proofs.lemmas.Result.{err_from_is_err_and}
-use Rattle.descriptor_sig.proofs.Leading.{leads_ok, leads_err, splits_ok, splits_err, first_done, one_more, one_fails, all_done}
+use Rattle.descriptor_sig.proofs.Leading.{leads_ok, leads_err, leads_then, splits_ok, one_more, one_fails, all_done}
 use Rattle.descriptor_sig.proofs.TypeSteps.{type_splits, arrayed_none, arrayed_some, no_element, prim_built, named_leads, var_leads}
-use Rattle.descriptor_sig.proofs.PartSteps.{parts_split, part_next, parts_end, part_splits, part_of}
+use Rattle.descriptor_sig.proofs.PartSteps.{head_splits, parts_lead, dot_leads, parts_end, part_splits, part_of}
 use Rattle.descriptor_sig.proofs.ArgSteps.{any_built, extends_leads, super_leads, exact_leads, args_lead, no_args, too_deep, arg_next, args_end}
 use Rattle.descriptor_sig.proofs.builder.Builder.+build.Goals as goal
 
@@ -40,7 +40,7 @@ argument-returns-in_err-java_type-3-clause-built t c =
 -- ---- arguments
 
 pub arguments-returns-then-not-eats-clause-built : goal.arguments-returns-then-not-eats-clause-built
-arguments-returns-then-not-eats-clause-built t c = no_args c.args.depth c.args.self.now c.eats.new.self c.if-not-eats.ensures c.of.result (c.of.ensures ∙ c.new-args.ensures.items)
+arguments-returns-then-not-eats-clause-built t c = no_args c.args.depth c.args.self.now c.eats.new.self c.if-not-eats.ensures c.of.result (c.of.ensures ∙ c.new.ensures.items)
 
 pub arguments-returns-then-depth-ge-NESTING_LIMIT-clause-built : goal.arguments-returns-then-depth-ge-NESTING_LIMIT-clause-built
 arguments-returns-then-depth-ge-NESTING_LIMIT-clause-built t c = too_deep c.args.depth c.args.self.now c.eats.new.self c.eats.new.self _ c.if-not-eats.ensures c.if-depth-ge-NESTING_LIMIT.true
@@ -106,23 +106,24 @@ part-returns-clause-built t c = leads_ok (splits_ok (part_splits c.args.depth c.
 
 -- ---- parts
 
+pub parts-loop-parts-init : goal.parts-loop-parts-init
+parts-loop-parts-init t c = record {
+  built = parts_lead c.args.depth c.args.self.now c.new-parts.result.items c.new-parts.ensures.items;
+  shrinks = omega arith;
+}
+
 pub parts-returns-in_err-part-clause-built : goal.parts-returns-in_err-part-clause-built
-parts-returns-in_err-part-clause-built t c = splits_err (parts_split c.args.depth c.args.self.now) c.in_err-part.ensures.built c.from_residual.result (err_from_is_err_and c.from_residual.result c.from_residual.ensures.1)
+parts-returns-in_err-part-clause-built t c = one_fails c.loop-parts.parts.items c.loop-parts.invariant.built (head_splits c.args.depth c.loop-parts.self) c.in_err-part.ensures.built c.from_residual.result (err_from_is_err_and c.from_residual.result c.from_residual.ensures.1)
 
-pub parts-loop-alloc-init : goal.parts-loop-alloc-init
-parts-loop-alloc-init t c = record {
-  built = first_done (parts_split c.args.depth c.args.self.now) c.in_ok-part.ensures.built c.push.new.self.items (c.in_ok-push.ensures.items ∙ ap (λ items. items ++ (c.in_ok-part.field-0 ∷ [])) c.new-parts.ensures.items);
-  shrinks = c.in_ok-part.ensures.shrinks;
-}
+pub parts-loop-parts-preserved : goal.parts-loop-parts-preserved
+parts-loop-parts-preserved t c =
+    let read = one_more c.loop-parts.parts.items c.loop-parts.invariant.built (head_splits c.args.depth c.loop-parts.self) c.in_ok-part.ensures.built c.push.new.self.items c.in_ok-push.ensures.items in
+    record {
+      built = leads_then read (dot_leads c.args.depth c.part.new.self c.eats.new.self c.if-not-eats.ensures);
+      shrinks = omega (arith, ap length c.if-not-eats.ensures, c.in_ok-part.ensures.shrinks);
+    }
 
-pub parts-returns-in_err-part-2-clause-built : goal.parts-returns-in_err-part-2-clause-built
-parts-returns-in_err-part-2-clause-built t c = one_fails c.loop-alloc.parts.items c.loop-alloc.invariant.built (part_next c.args.depth c.loop-alloc.self c.eats.new.self c.loop-alloc-test.ensures) c.in_err-part-2.ensures.built c.from_residual-in_err-part-2.result (err_from_is_err_and c.from_residual-in_err-part-2.result c.from_residual-in_err-part-2.ensures.1)
-
-pub parts-loop-alloc-preserved : goal.parts-loop-alloc-preserved
-parts-loop-alloc-preserved t c = record {
-  built = one_more c.loop-alloc.parts.items c.loop-alloc.invariant.built (part_next c.args.depth c.loop-alloc.self c.eats.new.self c.loop-alloc-test.ensures) c.in_ok-part-2.ensures.built c.push-in-loop-alloc.new.self.items c.in_ok-push-2.ensures.items;
-  shrinks = omega (arith, ap length c.loop-alloc-test.ensures, c.in_ok-part-2.ensures.shrinks);
-}
-
-pub parts-returns-clause-built : goal.parts-returns-clause-built
-parts-returns-clause-built t c = all_done c.loop-alloc.invariant.built (parts_end c.args.depth c.loop-alloc.self c.eats.new.self c.next.new.self c.next.result c.loop-alloc-test.ensures c.next.ensures.taken) c.of.result c.of.ensures
+pub parts-returns-then-not-eats-clause-built : goal.parts-returns-then-not-eats-clause-built
+parts-returns-then-not-eats-clause-built t c =
+    let read = one_more c.loop-parts.parts.items c.loop-parts.invariant.built (head_splits c.args.depth c.loop-parts.self) c.in_ok-part.ensures.built c.push.new.self.items c.in_ok-push.ensures.items in
+    all_done read (parts_end c.args.depth c.part.new.self c.eats.new.self c.next.new.self c.next.result c.if-not-eats.ensures c.next.ensures.taken) c.of.result c.of.ensures

@@ -1,7 +1,7 @@
 use Rattle.std.proofs.Common.{◌≤◌, ◌<◌, ◌+◌, ◌*◌, ◌-◌, length}
 use Rattle.descriptor_sig.specs.Standing.{PartsStand, ArgsStand}
 use Rattle.descriptor_sig.proofs.Leading.{Leads, behind}
-use Rattle.descriptor_sig.proofs.PartSteps.{PartsRow}
+use Rattle.descriptor_sig.proofs.PartSteps.{PartsHead}
 use Rattle.descriptor_sig.proofs.ArgSteps.{ArgsRow}
 use Rattle.descriptor_sig.proofs.builder.Builder.+build.Given as goal
 
@@ -33,11 +33,11 @@ invariant-arguments-loop-alloc l = record {
 abbrev pub decreases-arguments-loop-alloc : goal.decreases-arguments-loop-alloc
 decreases-arguments-loop-alloc l = length l.self
 
-abbrev pub invariant-parts-loop-alloc : goal.invariant-parts-loop-alloc
-invariant-parts-loop-alloc l = record {
-  built : Leads (behind l.parts.items) (PartsStand l.depth) (PartsRow l.depth) l.fn.self l.self;
+abbrev pub invariant-parts-loop-parts : goal.invariant-parts-loop-parts
+invariant-parts-loop-parts l = record {
+  built : Leads (behind l.parts.items) (PartsStand l.depth) (PartsHead l.depth) l.fn.self l.self;
   shrinks : length l.self ≤ length l.fn.self;
 }
 
-abbrev pub decreases-parts-loop-alloc : goal.decreases-parts-loop-alloc
-decreases-parts-loop-alloc l = length l.self
+abbrev pub decreases-parts-loop-parts : goal.decreases-parts-loop-parts
+decreases-parts-loop-parts l = length l.self

@@ -5,7 +5,7 @@ use Rattle.descriptor_sig.proofs.ParamSteps.{no_params, params_lead, param_next,
 use Rattle.descriptor_sig.proofs.builder.Builder.parameters.Goals as goal
 
 pub returns-then-not-eats : goal.returns-then-not-eats
-returns-then-not-eats c = no_params c.args.self.now c.eats.new.self c.if-not-eats.ensures c.of.result (c.of.ensures ∙ c.new-params.ensures.items)
+returns-then-not-eats c = no_params c.args.self.now c.eats.new.self c.if-not-eats.ensures c.of.result (c.of.ensures ∙ c.new.ensures.items)
 
 pub loop-alloc-init : goal.loop-alloc-init
 loop-alloc-init c = params_lead c.args.self.now c.eats.new.self c.if-not-eats.ensures c.new-params.result.items c.new-params.ensures.items
