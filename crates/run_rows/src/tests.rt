@@ -1,9 +1,8 @@
 //! Words and files, and what comes of them.
 ghost use Rattle.std.specs.Prelude.{◌≢◌, IfOk};
 
-use crate::run::run;
-use crate::status::Status;
 use hdr_core::{HeldFile, MemFiles, MemOuts, MemSink, NoGate, SureFiles, SureOuts, SureSink};
+use jheader::{Status, run};
 use std::alloc::Global;
 use std::process::Abort;
 use std::test::Fail;

@@ -1,7 +1,7 @@
 use Rattle.std.proofs.Common.{refl}
 use Rattle.jheader.specs.Endings.{Outside}
 use Rattle.jheader.proofs.Stopped.{stopped}
-use Rattle.jheader.proofs.run.ijar.Goals as goal
+use Rattle.jheader.proofs.commands.ijar.Goals as goal
 
 pub returns-in-Err : goal.returns-in-Err
 returns-in-Err g c =

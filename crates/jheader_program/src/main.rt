@@ -1,20 +1,10 @@
-//! jheader: header class files of Java.
+//! The program: it hands its words and the objects of the system to the commands.
 #![tactic(auto)]
 
-mod ijar;
-mod laws;
-mod read;
-mod run;
-mod status;
-mod stop;
 mod stream;
-mod strip;
-mod tell;
-#[cfg(test)]
-mod tests;
 
 use hdr_core::{DirFiles, DirOuts, NoGate, StdSink};
-use status::Status;
+use jheader::{Status, run};
 use std::io::ErrorKind;
 use std::process::ExitCode;
 use std::{env, io};
@@ -50,7 +40,7 @@ fn main(rt: HostRuntime) -> ExitCode {
     let mut outs = DirOuts::of(writing);
     let mut out = StdSink::of(StandardStream::Output(rt.stdout()));
     let mut err = StdSink::of(StandardStream::Error(rt.stderr()));
-    let status = run::run(
+    let status = run(
         &rt,
         rt.alloc(),
         &words,

@@ -1,0 +1,15 @@
+//! The commands of jheader: header class files of Java.
+#![tactic(auto)]
+
+mod commands;
+mod ijar;
+mod laws;
+mod read;
+mod status;
+mod stop;
+mod strip;
+mod tell;
+
+pub use commands::run;
+pub use laws::stripped_is_read_again;
+pub use status::Status;
