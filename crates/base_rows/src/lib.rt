@@ -1,4 +1,4 @@
-//! Examples of words, of paths and of calls to the outside: the tests of hdr_core, command_words and class_paths, in a crate of their own, so that the proofs of those are checked once.
+//! Examples of words, of paths and of calls to the outside: the tests of hdr_core and jobs, in a crate of their own, so that the proofs of those are checked once.
 #![tactic(auto)]
 
 #[cfg(test)]

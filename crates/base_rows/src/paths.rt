@@ -1,4 +1,4 @@
-use class_paths::used_paths;
+use jobs::used_paths;
 use std::test::Fail;
 
 /// Paths as they were listed below `in`.

@@ -1,4 +1,4 @@
-use command_words::{Job, job_of};
+use jobs::{Job, job_of};
 use std::alloc::Global;
 use std::test::Fail;
 

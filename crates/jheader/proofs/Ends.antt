@@ -4,8 +4,8 @@ use Rattle.std.proofs.Math.Dec.{T, eqb}
 use Rattle.std.proofs.Math.Facts.{yes_eqb}
 use Rattle.std.specs.Prelude.{Option, Some, None, IfSome, IsSome}
 use Rattle.hdr_core.specs.Causes.{Rose, grown}
-use Rattle.command_words.specs.Words.{Job, Archive, NoJob, Ijar, archive_line, help_line, usage_line}
-use Rattle.class_paths.specs.Paths.{File}
+use Rattle.jobs.specs.Words.{Job, Archive, NoJob, Ijar, archive_line, help_line, usage_line}
+use Rattle.jobs.specs.Paths.{File}
 use Rattle.jheader.specs.declared.status.Status.{Status}
 use Rattle.jheader.specs.declared.status.Status.TheVariants.{Done, Diagnosed, Usage, ReadFault, WriteFault, Memory}
 use Rattle.jheader.specs.Statuses.{status_number}

@@ -4,8 +4,8 @@ use Rattle.std.specs.Prelude.{string_bytes, Option, Some, None, Err, IfSome}
 use Rattle.hdr_core.specs.Causes.{grown}
 use Rattle.hdr_core.specs.Diagnostics.{printed}
 use Rattle.hdr_core.specs.declared.diagnostics.Diag.{Diag}
-use Rattle.command_words.specs.Words.{Ijar}
-use Rattle.class_paths.specs.Paths.{File, tree}
+use Rattle.jobs.specs.Words.{Ijar}
+use Rattle.jobs.specs.Paths.{File, tree}
 use Rattle.jheader.specs.declared.status.Status.{Status}
 use Rattle.jheader.specs.declared.status.Status.TheVariants.{Diagnosed}
 use Rattle.jheader.specs.declared.stop.Stop.{Stop}

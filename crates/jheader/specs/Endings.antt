@@ -1,8 +1,8 @@
 -- How a run may end, and what is true of the outside then.
 use Rattle.std.specs.Prelude.{◌≡◌, ◌⊎◌, ℕ, List, Option, IfSome}
 use Rattle.hdr_core.specs.Causes.{Rose, grown}
-use Rattle.command_words.specs.Words.{Job, Archive, NoJob, Ijar, archive_line, help_line}
-use Rattle.class_paths.specs.Paths.{File}
+use Rattle.jobs.specs.Words.{Job, Archive, NoJob, Ijar, archive_line, help_line}
+use Rattle.jobs.specs.Paths.{File}
 use Rattle.jheader.specs.declared.status.Status.{Status}
 use Rattle.jheader.specs.declared.status.Status.TheVariants as status
 use Rattle.jheader.specs.Outcome.{Outcome, outcome}

@@ -9,10 +9,10 @@ use Rattle.class_desc.specs.Layout.{layout}
 use Rattle.class_desc.specs.Strip.{strip_class}
 use Rattle.class_reader.specs.declared.fault.ClassFault.{ClassFault}
 use Rattle.class_reader.specs.Reading.{class_of}
-use Rattle.command_words.specs.Words.{Job, Archive, NoJob, Ijar, archive_line, help_line}
+use Rattle.jobs.specs.Words.{Job, Archive, NoJob, Ijar, archive_line, help_line}
 use Rattle.jheader.specs.declared.status.Status.{Status}
 use Rattle.jheader.specs.declared.status.Status.TheVariants.{Done, Diagnosed, Usage}
-use Rattle.class_paths.specs.Paths.{File, tree}
+use Rattle.jobs.specs.Paths.{File, tree}
 use Rattle.jheader.specs.Phases.{diagnostics}
 
 pub record Outcome : Type 0 where

@@ -11,7 +11,7 @@ use Rattle.class_reader.specs.Reading.{class_of}
 use Rattle.class_writer.specs.declared.error.PoolErr.{PoolErr}
 use Rattle.class_writer.specs.declared.error.PoolErr.TheVariants as refused
 use Rattle.class_writer.specs.Refusal.{refusal}
-use Rattle.class_paths.specs.Paths.{File}
+use Rattle.jobs.specs.Paths.{File}
 
 abbrev pub diag_at : ℕ → List ℕ → Code → List ℕ → Diag
 diag_at file path code name = record { file = file; path = path; line = 0; code = code; name = name }

@@ -6,8 +6,8 @@ use Rattle.std.specs.declared.alloc.Global.{Global}
 use Rattle.hdr_core.specs.Causes.{Rose}
 use Rattle.hdr_core.specs.declared.diagnostics.Diag.{Diag}
 use Rattle.hdr_core.specs.declared.held.HeldFile.{HeldFile}
-use Rattle.command_words.specs.Words.{Job, Archive, NoJob, Ijar}
-use Rattle.class_paths.specs.Paths.{File, used}
+use Rattle.jobs.specs.Words.{Job, Archive, NoJob, Ijar}
+use Rattle.jobs.specs.Paths.{File, used}
 use Rattle.jheader.specs.declared.stop.Stop.{Stop}
 use Rattle.jheader.specs.declared.stop.Stop.TheVariants as stop
 

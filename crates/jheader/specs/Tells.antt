@@ -3,7 +3,7 @@ use Rattle.std.specs.Prelude.{◌≡◌, ◌⊎◌, ℕ, ◌<◌, List, ◌++◌
 use Rattle.hdr_core.specs.Causes.{Rose, grown, GrewByFront}
 use Rattle.hdr_core.specs.Diagnostics.{printed}
 use Rattle.hdr_core.specs.Held.{with_file}
-use Rattle.class_paths.specs.Paths.{File}
+use Rattle.jobs.specs.Paths.{File}
 use Rattle.jheader.specs.declared.status.Status.{Status}
 use Rattle.jheader.specs.declared.status.Status.TheVariants as status
 use Rattle.jheader.specs.declared.stop.Stop.{Stop}

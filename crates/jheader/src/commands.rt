@@ -1,9 +1,9 @@
 //! The top call.
 ghost use Rattle.std.specs.Prelude.{◌≡◌, ◌⊎◌, ℕ, ◌-◌, ◌^◌, ◌<◌, [], ◌∷◌, List, None, map, string_bytes, IfOk, IfErr, IfSome, IsSome};
 ghost use Rattle.hdr_core.specs.Causes.{grown};
-ghost use Rattle.command_words.specs.Words.{job, Ijar, usage_line};
-ghost use Rattle.command_words.specs.Seen.{job_seen};
-ghost use Rattle.class_paths.specs.Paths.{tree};
+ghost use Rattle.jobs.specs.Words.{job, Ijar, usage_line};
+ghost use Rattle.jobs.specs.Seen.{job_seen};
+ghost use Rattle.jobs.specs.Paths.{tree};
 ghost use Rattle.jheader.specs.Endings.{Ends};
 ghost use Rattle.jheader.specs.Outcome.{outcome, written as written_of};
 ghost use Rattle.jheader.specs.Phases.{diagnostics};
@@ -15,8 +15,8 @@ use crate::read::read_sole;
 use crate::status::Status;
 use crate::stop::Stop;
 use crate::tell::{tell_archive, tell_stop, tell_usage};
-use command_words::{Job, job_of};
 use hdr_core::{CallErr, Files, Gate, HeldFile, Outs, Sink};
+use jobs::{Job, job_of};
 use std::alloc::Global;
 use std::thread::Threads;
 

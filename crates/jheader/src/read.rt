@@ -2,13 +2,13 @@
 ghost use Rattle.std.specs.Prelude.{◌≡◌, ◌≤◌, ◌<◌, ◌^◌, [], ◌∷◌, IfOk, IfErr, IfSome, IsSome, Contains, List, codes, length, map, nat_eq, string_bytes, Some};
 ghost use Rattle.std.specs.List.{ends_with};
 ghost use Rattle.hdr_core.specs.Held.{held_at, IsListing};
-ghost use Rattle.class_paths.specs.Paths.{File, tree, used};
+ghost use Rattle.jobs.specs.Paths.{File, tree, used};
 ghost use Rattle.jheader.specs.Phases.{diag_at, is_sole, reading};
 ghost use Rattle.jheader.specs.Stops.{IsFilled, StopsOnly, FaultRises, IsRootOrUsed, held_file, IsSolePath};
 
 use crate::stop::Stop;
-use class_paths::used_paths;
 use hdr_core::{CallErr, Code, Diag, FileErr, Files, HeldFile, LONGEST_FILE, Memory, Text};
+use jobs::used_paths;
 use std::alloc::Global;
 
 /// The only diagnostic of a job: at a path of file 0 and line 0.

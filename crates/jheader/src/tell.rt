@@ -1,7 +1,7 @@
 //! What is told on the way out.
 ghost use Rattle.std.specs.Prelude.{◌≡◌, ◌++◌, IfOk, OnOk};
 ghost use Rattle.hdr_core.specs.Diagnostics.{printed};
-ghost use Rattle.command_words.specs.Words.{archive_line, help_line};
+ghost use Rattle.jobs.specs.Words.{archive_line, help_line};
 ghost use Rattle.jheader.specs.Tells.{TellsLine, LineTold, DiagsTold, StopTold, fault_line};
 
 use crate::status::Status;

@@ -1,6 +1,6 @@
 use Rattle.std.proofs.Common.{map, refl}
 use Rattle.std.specs.Prelude.{string_bytes}
-use Rattle.command_words.specs.Words.{job}
+use Rattle.jobs.specs.Words.{job}
 use Rattle.jheader.specs.Endings.{Outside}
 use Rattle.jheader.proofs.Ends.{AreBelow, usage, usage_only, usage_told, usage_alone, read_fault, read_fault_told, read_fault_alone, write_fault, files_first, others_next, diagnosed, done, done_silent, complete, exact, unwritten}
 use Rattle.jheader.proofs.commands.run.Goals as goal

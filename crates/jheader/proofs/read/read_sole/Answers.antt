@@ -5,7 +5,7 @@ use Rattle.std.specs.declared.alloc.Global.{Global}
 use Rattle.std.proofs.lemmas.Result.{IfOk-weaker}
 use Rattle.hdr_core.specs.Held.{IsListing}
 use Rattle.hdr_core.specs.declared.diagnostics.Diag.{Diag}
-use Rattle.class_paths.specs.Paths.{File, used, tree}
+use Rattle.jobs.specs.Paths.{File, used, tree}
 use Rattle.jheader.specs.Phases.{reading}
 use Rattle.jheader.specs.Stops.{IsSolePath, IsFilled, IsRootOrUsed}
 use Rattle.jheader.proofs.Options.{from_some, if_err_weaker, stops_weaker}

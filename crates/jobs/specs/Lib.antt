@@ -1,0 +1,4 @@
+pub mod Parts
+pub mod Paths
+pub mod Seen
+pub mod Words
