@@ -1,7 +1,7 @@
 //! Descriptions of class files (JVMS 4), and what is said of them.
 //!
-//! A description has no pool, no offsets and only the attributes that the product keeps. Beside them stand
-//! tests of the forms of names (JVMS 4.2) and of modified UTF-8 (JVMS 4.4.7).
+//! A description has no pool, no offsets and only the attributes that the product keeps. Beside the
+//! descriptions stand tests of the forms of names (JVMS 4.2) and of modified UTF-8 (JVMS 4.4.7).
 #![tactic(auto)]
 
 mod annotation;
