@@ -1,4 +1,5 @@
 pub mod Filtered
 pub mod Layers
 pub mod Levels
+pub mod ModifiedUtf8
 pub mod Stripped

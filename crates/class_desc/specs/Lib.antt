@@ -9,4 +9,5 @@ pub mod Signature
 pub mod Spelling
 pub mod Strip
 pub mod Types
+pub mod Units
 pub mod View

@@ -1,4 +1,4 @@
-//! Examples of names, descriptors and signatures: the tests of name_forms, signature_scan and descriptor_sig, and of the copies of signatures in class_desc, in a crate of their own, so that the proofs of those are checked once.
+//! Examples of names, descriptors and signatures: the tests of signature_scan and descriptor_sig, and of the names, the modified UTF-8 and the copies of signatures in class_desc, in a crate of their own, so that the proofs of those are checked once.
 #![tactic(auto)]
 
 #[cfg(test)]

@@ -1,5 +1,5 @@
 //! Names and texts that are right in class files, and some that aren't (JVMS 4.2, 4.4.7).
-use name_forms::{is_class_name, is_field_name, is_method_name, is_modified_utf8};
+use class_desc::{is_class_name, is_field_name, is_method_name, is_modified_utf8};
 
 #[test]
 fn tells_names(rt: HostRuntime) {

@@ -1,7 +1,7 @@
 use Rattle.std.proofs.Common.{◌∙◌, sym, ap, length}
 use Rattle.std.proofs.lemmas.Bool.{eqb-false}
-use Rattle.name_forms.proofs.ModifiedUtf8.{units_more, units_stuck}
-use Rattle.name_forms.proofs.units.is_modified_utf8.Goals as goal
+use Rattle.class_desc.proofs.ModifiedUtf8.{units_more, units_stuck}
+use Rattle.class_desc.proofs.units.is_modified_utf8.Goals as goal
 
 pub returns-in_default-clause-refused : goal.returns-in_default-clause-refused
 returns-in_default-clause-refused c = λ e valid.

@@ -7,7 +7,7 @@ use Rattle.std.proofs.lemmas.List.{take_all}
 use Rattle.std.proofs.lemmas.Grind.{flat_map-append}
 use Rattle.hdr_core.specs.ModifiedUtf8.{unit_bytes}
 use Rattle.class_desc.specs.ModifiedUtf8.{IsModifiedUtf8}
-use Rattle.name_forms.specs.Units.{is_next_byte, is_single_byte, is_byte_pair, is_byte_triple, IsBehindUnit, HasNoUnit}
+use Rattle.class_desc.specs.Units.{is_next_byte, is_single_byte, is_byte_pair, is_byte_triple, IsBehindUnit, HasNoUnit}
 
 -- ---- what the tests of bytes say
 

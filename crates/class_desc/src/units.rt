@@ -1,6 +1,6 @@
 ghost use Rattle.std.specs.Prelude.{◌≡◌, true, false, MatchOption};
 ghost use Rattle.class_desc.specs.ModifiedUtf8.{IsModifiedUtf8};
-ghost use Rattle.name_forms.specs.Units.{is_next_byte, is_single_byte, is_byte_pair, is_byte_triple, IsBehindUnit, HasNoUnit};
+ghost use Rattle.class_desc.specs.Units.{is_next_byte, is_single_byte, is_byte_pair, is_byte_triple, IsBehindUnit, HasNoUnit};
 
 /// Whether the bytes are modified UTF-8 (JVMS 4.4.7). Surrogates needn't be paired.
 pub fn is_modified_utf8(bytes: &[u8]) -> bool

@@ -1,7 +1,7 @@
 use Rattle.std.proofs.Common.{rules, tests}
 use Rattle.std.proofs.lemmas.Iterator.Search.{all_from_yields_List}
 use Rattle.std.proofs.lemmas.Iterator.Splits.{YieldsList-from_slice_split}
-use Rattle.name_forms.proofs.names.is_class_name.Goals as goal
+use Rattle.class_desc.proofs.names.is_class_name.Goals as goal
 
 pub returns : goal.returns
 returns c =

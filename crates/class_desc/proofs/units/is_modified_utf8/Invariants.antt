@@ -1,6 +1,6 @@
 use Rattle.std.proofs.Common.{length}
-use Rattle.name_forms.proofs.ModifiedUtf8.{UnitsSoFar}
-use Rattle.name_forms.proofs.units.is_modified_utf8.Given as goal
+use Rattle.class_desc.proofs.ModifiedUtf8.{UnitsSoFar}
+use Rattle.class_desc.proofs.units.is_modified_utf8.Given as goal
 
 abbrev pub invariant-loop-rest : goal.invariant-loop-rest
 invariant-loop-rest l = UnitsSoFar l.bytes l.rest
