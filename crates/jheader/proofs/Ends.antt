@@ -1,8 +1,8 @@
 -- What follows from the way in which a run ended. Ways are told apart by the numbers of their statuses.
-use Rattle.std.proofs.Common.{◌≡◌, ◌⊎◌, ℕ, ◌+◌, ◌-◌, ◌^◌, ◌<◌, ◌≤◌, min, Bool, false, List, refl, sym, ap, subst, ◌∙◌, inl, inr, ⊎_elim, arith}
+use Rattle.std.proofs.Common.{◌≡◌, ◌⊎◌, ℕ, ◌-◌, ◌^◌, ◌<◌, Bool, false, List, refl, sym, ap, subst, ◌∙◌, inl, inr, ⊎_elim, arith}
 use Rattle.std.proofs.Math.Dec.{T, eqb}
 use Rattle.std.proofs.Math.Facts.{yes_eqb}
-use Rattle.std.specs.Prelude.{Option, Some, None, IfSome, IsSome}
+use Rattle.std.specs.Prelude.{Option, None, IfSome, IsSome}
 use Rattle.hdr_core.specs.Causes.{Rose, grown}
 use Rattle.jobs.specs.Words.{Job, Archive, NoJob, Ijar, archive_line, help_line, usage_line}
 use Rattle.jobs.specs.Paths.{File}

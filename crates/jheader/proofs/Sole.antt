@@ -10,7 +10,7 @@ use Rattle.hdr_core.specs.declared.code.Code.TheVariants.{L1, F0}
 use Rattle.hdr_core.specs.declared.diagnostics.Diag.{Diag}
 use Rattle.hdr_core.specs.declared.held.HeldFile.{HeldFile}
 use Rattle.jobs.specs.Paths.{File, used, tree}
-use Rattle.jheader.specs.Phases.{diag_at, is_sole, too_long, reading}
+use Rattle.jheader.specs.Phases.{diag_at, too_long, reading}
 use Rattle.jheader.specs.Stops.{held_file, IsSolePath, IsRootOrUsed}
 use Rattle.jheader.proofs.Options.{if_some, from_some}
 

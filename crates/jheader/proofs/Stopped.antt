@@ -1,6 +1,6 @@
 -- A job that ended before anything was written.
-use Rattle.std.proofs.Common.{◌≡◌, ℕ, List, [], ◌∷◌, refl, sym, ap, ◌∙◌, inl, inr, ⊎_elim}
-use Rattle.std.specs.Prelude.{string_bytes, Option, Some, None, Err, IfSome}
+use Rattle.std.proofs.Common.{◌≡◌, ℕ, List, [], ◌∷◌, sym, ap, ◌∙◌, inl, inr, ⊎_elim}
+use Rattle.std.specs.Prelude.{string_bytes, Option, Err, IfSome}
 use Rattle.hdr_core.specs.Causes.{grown}
 use Rattle.hdr_core.specs.Diagnostics.{printed}
 use Rattle.hdr_core.specs.declared.diagnostics.Diag.{Diag}
@@ -10,7 +10,7 @@ use Rattle.jheader.specs.declared.status.Status.{Status}
 use Rattle.jheader.specs.declared.status.Status.TheVariants.{Diagnosed}
 use Rattle.jheader.specs.declared.stop.Stop.{Stop}
 use Rattle.jheader.specs.declared.stop.Stop.TheVariants as stop
-use Rattle.jheader.specs.Outcome.{told, outcome, written}
+use Rattle.jheader.specs.Outcome.{told, written}
 use Rattle.jheader.specs.Phases.{diagnostics}
 use Rattle.jheader.specs.Stops.{IsFilled, StopsOnly, FaultRises, IsRootOrUsed}
 use Rattle.jheader.specs.Tells.{StopTold}

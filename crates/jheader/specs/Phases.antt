@@ -1,5 +1,5 @@
 -- The diagnostics of a job, phase by phase. Only the first phase that has one is told.
-use Rattle.std.specs.Prelude.{◌≡◌, ℕ, ◌==◌, ◌&&◌, Bool, true, false, not, List, [], ◌∷◌, length, flat_map, codes, nat_eq, nat_lt, Option, Some, None, Result, Ok, Err, if◌then◌else◌}
+use Rattle.std.specs.Prelude.{ℕ, Bool, false, not, List, [], ◌∷◌, length, flat_map, codes, nat_eq, nat_lt, Option, Some, None, Result, Ok, Err, if◌then◌else◌}
 use Rattle.std.specs.List.{ends_with, enumerate_from}
 use Rattle.hdr_core.specs.declared.code.Code.{Code}
 use Rattle.hdr_core.specs.declared.code.Code.TheVariants.{L1, F0, L4, L5, L9}

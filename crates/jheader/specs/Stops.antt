@@ -1,5 +1,5 @@
 -- What is known where a job ends before anything is written.
-use Rattle.std.specs.Prelude.{◌≡◌, ◌⊎◌, ℕ, Bool, true, false, List, [], ◌∷◌, string_bytes, codes, nat_eq, Option, Some, None, Result, Ok, Err, IfSome, Contains}
+use Rattle.std.specs.Prelude.{◌≡◌, ◌⊎◌, ℕ, true, false, List, [], ◌∷◌, string_bytes, codes, nat_eq, Option, Some, None, Result, Ok, Err, Contains}
 use Rattle.std.specs.List.{ends_with}
 use Rattle.std.specs.declared.string.String.{String}
 use Rattle.std.specs.declared.alloc.Global.{Global}
