@@ -1,5 +1,5 @@
 -- What the definitions over types say at each kind of type, part and argument.
-use Rattle.std.proofs.Common.{◌≡◌, ap, sym, ◌∙◌, ℕ, Bool, true, List, [], ◌∷◌, ◌++◌, ◌+◌, ◌&&◌, ◌^◌, map, replicate}
+use Rattle.std.proofs.Common.{◌≡◌, ap, sym, ◌∙◌, ℕ, Bool, true, List, [], ◌∷◌, ◌++◌, ◌&&◌, ◌^◌, map, replicate}
 use Rattle.std.specs.Prelude.{codes, nat_le, nat_lt}
 use Rattle.std.specs.List.{list_all}
 use Rattle.class_desc.specs.declared.types.JType.{JType, fold-roll-JType}

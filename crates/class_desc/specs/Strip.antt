@@ -1,6 +1,6 @@
 -- What remains of a class for its clients: no private members, no class initialiser.
 -- For now descriptions have no attributes, so no entry of InnerClasses has to go.
-use Rattle.std.specs.Prelude.{ℕ, ◌==◌, ◌&&◌, Bool, not, bit_and, List, filter, codes}
+use Rattle.std.specs.Prelude.{ℕ, ◌==◌, ◌&&◌, Bool, not, bit_and, filter, codes}
 use Rattle.class_desc.specs.declared.class.ClassDesc.{ClassDesc}
 use Rattle.class_desc.specs.declared.class.FieldDesc.{FieldDesc}
 use Rattle.class_desc.specs.declared.class.MethodDesc.{MethodDesc}

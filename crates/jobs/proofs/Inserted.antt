@@ -1,6 +1,6 @@
 -- Paths that go into a set one by one.
 use Rattle.std.proofs.Common.{◌≡◌, ◌⊎◌, ℕ, zero, suc, ◌+◌, ◌<◌, Bool, true, false, cond, ◌&&◌, List, [], ◌∷◌, ◌++◌, length, take, get_or, map, refl, sym, ap, subst, ◌∙◌, inl, inr, ⊎_elim, arith}
-use Rattle.std.specs.Prelude.{filter, string_bytes, Option, Some, None, IsSome, Contains, bytes_eq}
+use Rattle.std.specs.Prelude.{filter, string_bytes, Some, IsSome, Contains, bytes_eq}
 use Rattle.std.specs.String.{string_cmp}
 use Rattle.std.specs.declared.string.String.{String}
 use Rattle.std.specs.declared.alloc.Global.{Global}
@@ -14,7 +14,7 @@ use Rattle.std.proofs.lemmas.Cmp.{nat_list_eq_equiv}
 use lib.Pointwise.{bytes_decides}
 use Rattle.hdr_core.specs.Held.{held_at, is_under, IsListing}
 use Rattle.jobs.specs.Paths.{File, is_class_path, insert_each, in_order, used}
-use Rattle.jobs.proofs.Rising.{Path, Among, Rises, rises_each, rises_same, among_each, each_new, each_more}
+use Rattle.jobs.proofs.Rising.{Path, Among, rises_each, rises_same, among_each, each_new, each_more}
 
 abbrev Str : Type 0
 Str = String Global

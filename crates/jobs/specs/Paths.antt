@@ -1,5 +1,5 @@
 -- Which files a job uses, and in which order.
-use Rattle.std.specs.Prelude.{◌≡◌, ℕ, ◌+◌, ◌==◌, ◌&&◌, Bool, not, List, [], ◌∷◌, ◌++◌, length, take, drop, map, filter, codes, nat_eq, bytes_eq, position, Option, option_map, unwrap_or, if◌then◌else◌}
+use Rattle.std.specs.Prelude.{ℕ, ◌+◌, ◌==◌, ◌&&◌, Bool, not, List, [], ◌∷◌, length, take, drop, map, filter, codes, nat_eq, bytes_eq, position, Option, option_map, unwrap_or, if◌then◌else◌}
 use Rattle.std.specs.List.{list_any, starts_with, ends_with, slice_split}
 use Rattle.std.specs.Ordering.{nat_cmp}
 use Rattle.std.specs.Cmp.Lexicographic.{slice_cmp}
