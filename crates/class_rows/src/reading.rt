@@ -116,6 +116,6 @@ fn reads_many_methods(rt: HostRuntime) {
         let file = class_of_methods(&rt, count);
         assert!(rt; file.len() <= 16_777_216);
         let read = read_class(rt.alloc(), &file).map(|class| class.methods.items().len());
-        assert_eq!(rt; read, want);
+        assert!(rt; read == want);
     }
 }
