@@ -162,6 +162,11 @@ fn class<R: Abort + AllocGlobal>(rt: &R) -> ClassDesc {
     }
 }
 
+fn is_copied<R: Abort + AllocGlobal>(rt: &R, attr: &Attr) -> bool {
+    let copy = attr.copy(rt.alloc()).expect(rt, "memory");
+    are_alike(rt, attr, &copy)
+}
+
 #[test]
 fn copies_a_class_with_all_that_it_holds(rt: HostRuntime) {
     let class = class(&rt);
@@ -173,7 +178,6 @@ fn copies_a_class_with_all_that_it_holds(rt: HostRuntime) {
 #[test]
 fn copies_each_attribute(rt: HostRuntime) {
     for attr in attributes(&rt).items() {
-        let copy = attr.copy(rt.alloc()).expect(&rt, "memory");
-        assert!(rt; are_alike(&rt, attr, &copy));
+        assert!(rt; is_copied(&rt, attr));
     }
 }

@@ -46,13 +46,17 @@ fn add_member<R: Abort>(rt: &R, told: &mut Vec<u8>, name: &Text, descriptor: &Te
     add(rt, told, descriptor.bytes());
 }
 
-/// The name, the superclass and the members.
-fn tell<R: Abort>(rt: &R, told: &mut Vec<u8>, class: &ClassDesc) {
-    add(rt, told, class.name.bytes());
-    if let Some(name) = &class.super_name {
+fn add_super<R: Abort>(rt: &R, told: &mut Vec<u8>, name: &Option<Text>) {
+    if let Some(name) = name {
         add(rt, told, b" ");
         add(rt, told, name.bytes());
     }
+}
+
+/// The name, the superclass and the members.
+fn tell<R: Abort>(rt: &R, told: &mut Vec<u8>, class: &ClassDesc) {
+    add(rt, told, class.name.bytes());
+    add_super(rt, told, &class.super_name);
     for field in class.fields.items() {
         add_member(rt, told, &field.name, &field.descriptor);
     }

@@ -30,7 +30,7 @@ fn tell_word<R: Abort>(rt: &R, told: &mut Vec<u8>, word: &[u8]) {
 }
 
 fn tell_number<R: Abort>(rt: &R, told: &mut Vec<u8>, number: u16) {
-    tell_word(rt, told, &u32::from(number).to_be_bytes());
+    tell_word(rt, told, &number.to_be_bytes());
 }
 
 /// What the value is, and its words.

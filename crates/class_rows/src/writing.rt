@@ -19,22 +19,15 @@ struct Case<'a> {
     file: &'a [u8],
 }
 
-fn fields_of<R: Abort + AllocGlobal>(
-    rt: &R,
-    field: Option<(&[u8], &[u8])>,
-) -> List<FieldDesc>
-    ensures { AllByRecursion (λ f. f.attrs ≡ []) result }
+fn field_of<R: Abort + AllocGlobal>(rt: &R, name: &[u8], descriptor: &[u8]) -> FieldDesc
+    ensures { result.attrs ≡ [] }
 {
-    let Some((name, descriptor)) = field else {
-        return none(rt);
-    };
-    let field = FieldDesc {
+    FieldDesc {
         flags: 0x0001,
         name: text(rt, name),
         descriptor: text(rt, descriptor),
         attrs: none(rt),
-    };
-    list(rt, [field])
+    }
 }
 
 fn method_of<R: Abort + AllocGlobal>(rt: &R, name: &[u8], descriptor: &[u8]) -> MethodDesc
@@ -48,10 +41,16 @@ fn method_of<R: Abort + AllocGlobal>(rt: &R, name: &[u8], descriptor: &[u8]) -> 
     }
 }
 
-fn methods_of<R: Abort + AllocGlobal>(
-    rt: &R,
-    method: Option<(&[u8], &[u8])>,
-) -> List<MethodDesc>
+fn fields_of<R: Abort + AllocGlobal>(rt: &R, field: Option<(&[u8], &[u8])>) -> List<FieldDesc>
+    ensures { AllByRecursion (λ f. f.attrs ≡ []) result }
+{
+    match field {
+        Some((name, descriptor)) => list(rt, [field_of(rt, name, descriptor)]),
+        None => none(rt),
+    }
+}
+
+fn methods_of<R: Abort + AllocGlobal>(rt: &R, method: Option<(&[u8], &[u8])>) -> List<MethodDesc>
     ensures { AllByRecursion (λ m. m.attrs ≡ []) result }
 {
     match method {
