@@ -1,61 +1,54 @@
 //! The annotations of a class, and their copy.
-use crate::lists::{none, one, two};
+use crate::lists::{list, none, text};
 use crate::told::are_alike;
 use class_desc::{Ann, AnnDesc, ClassAnns, Deprecations, ElemValue, Value};
-use hdr_core::{List, Memory, Text};
-use std::alloc::Global;
-use std::test::Fail;
+use hdr_core::List;
+use std::process::Abort;
 
-fn annotations(alloc: Global) -> Result<List<Ann>, Memory> {
+fn annotations<R: Abort + AllocGlobal>(rt: &R) -> List<Ann> {
     let desc = AnnDesc {
-        descriptor: Text::of(alloc, b"Lp/N;")?,
-        elements: none(alloc),
+        descriptor: text(rt, b"Lp/N;"),
+        elements: none(rt),
     };
-    one(
-        alloc,
-        Ann {
-            visible: true,
-            desc,
-        },
-    )
+    let visible = true;
+    list(rt, [Ann { visible, desc }])
 }
 
-fn annotation_lists(alloc: Global) -> Result<List<List<Ann>>, Memory> {
-    two(alloc, annotations(alloc)?, none(alloc))
+fn annotation_lists<R: Abort + AllocGlobal>(rt: &R) -> List<List<Ann>> {
+    list(rt, [annotations(rt), none(rt)])
 }
 
-fn defaults(alloc: Global) -> Result<List<Option<ElemValue>>, Memory> {
+fn defaults<R: Abort + AllocGlobal>(rt: &R) -> List<Option<ElemValue>> {
     let long = ElemValue::Const {
         tag: b'J',
         value: Value::Long(7),
     };
-    two(alloc, None, Some(long))
+    list(rt, [None, Some(long)])
 }
 
-fn deprecations(alloc: Global) -> Result<Deprecations, Memory> {
-    Ok(Deprecations {
+fn deprecations<R: Abort + AllocGlobal>(rt: &R) -> Deprecations {
+    Deprecations {
         own: true,
-        fields: two(alloc, false, true)?,
-        methods: two(alloc, true, false)?,
-    })
+        fields: list(rt, [false, true]),
+        methods: list(rt, [true, false]),
+    }
 }
 
-fn class_annotations(alloc: Global) -> Result<ClassAnns, Memory> {
-    Ok(ClassAnns {
-        own: annotations(alloc)?,
-        fields: annotation_lists(alloc)?,
-        methods: annotation_lists(alloc)?,
-        formals: one(alloc, annotation_lists(alloc)?)?,
-        components: annotation_lists(alloc)?,
-        defaults: defaults(alloc)?,
-        deprecated: deprecations(alloc)?,
-    })
+fn class_annotations<R: Abort + AllocGlobal>(rt: &R) -> ClassAnns {
+    ClassAnns {
+        own: annotations(rt),
+        fields: annotation_lists(rt),
+        methods: annotation_lists(rt),
+        formals: list(rt, [annotation_lists(rt)]),
+        components: annotation_lists(rt),
+        defaults: defaults(rt),
+        deprecated: deprecations(rt),
+    }
 }
 
 #[test]
-fn copies_the_annotations_of_a_class(rt: HostRuntime) -> Result<(), Fail> {
-    let annotations = class_annotations(rt.alloc())?;
-    let copy = annotations.copy(rt.alloc())?;
-    assert!(rt; are_alike(rt.alloc(), &annotations, &copy)?);
-    Ok(())
+fn copies_the_annotations_of_a_class(rt: HostRuntime) {
+    let annotations = class_annotations(&rt);
+    let copy = annotations.copy(rt.alloc()).expect(&rt, "memory");
+    assert!(rt; are_alike(&rt, &annotations, &copy));
 }

@@ -1,34 +1,29 @@
-//! Lists from which the tests build descriptions.
-ghost use Rattle.std.specs.Prelude.{◌≡◌, [], ◌∷◌, IfOk};
+//! What the tests build descriptions from. Where memory is wanting, the test ends.
+ghost use Rattle.std.specs.Prelude.{◌≡◌, []};
 
-use hdr_core::{List, Memory, Text};
-use std::alloc::Global;
+use hdr_core::{List, Text};
+use std::process::Abort;
 
-pub fn one<T: Drop>(alloc: Global, item: T) -> Result<List<T>, Memory>
-    ensures { IfOk result (λ list. list ≡ item ∷ []) }
-{
-    let mut items = Vec::new(alloc);
-    items.push(item)?;
-    Ok(List::of(items))
+pub fn text<R: Abort + AllocGlobal>(rt: &R, bytes: &[u8]) -> Text {
+    Text::of(rt.alloc(), bytes).expect(rt, "memory")
 }
 
-pub fn two<T: Drop>(alloc: Global, first: T, second: T) -> Result<List<T>, Memory> {
-    let mut items = Vec::new(alloc);
-    items.push(first)?;
-    items.push(second)?;
-    Ok(List::of(items))
+pub fn texts<R: Abort + AllocGlobal>(rt: &R, texts: &[&[u8]]) -> List<Text> {
+    let mut list = Vec::new(rt.alloc());
+    for bytes in texts {
+        list.push(text(rt, bytes)).expect(rt, "memory");
+    }
+    List::of(list)
 }
 
-pub fn none<T>(alloc: Global) -> List<T>
+pub fn none<R: AllocGlobal, T>(rt: &R) -> List<T>
     ensures { result ≡ [] }
 {
-    List::of(Vec::new(alloc))
+    List::of(Vec::new(rt.alloc()))
 }
 
-pub fn texts(alloc: Global, texts: &[&[u8]]) -> Result<List<Text>, Memory> {
-    let mut list = Vec::new(alloc);
-    for text in texts {
-        list.push(Text::of(alloc, text)?)?;
-    }
-    Ok(List::of(list))
+pub fn list<R: Abort + AllocGlobal, T: Drop, const N: usize>(rt: &R, items: [T; N]) -> List<T>
+    ensures { result ≡ items }
+{
+    List::of(Vec::from_array(rt.alloc(), items).expect(rt, "memory"))
 }

@@ -1,8 +1,7 @@
 use class_desc::ClassDesc;
 use class_reader::{ClassFault, ClassKind, ReadErr, read_class};
 use hdr_core::Text;
-use std::alloc::{AllocError, Global};
-use std::test::Fail;
+use std::process::Abort;
 
 /// The class A of the superclass java/lang/Object, in the order that `javac` writes.
 const PLAIN: &[u8] = b"\xca\xfe\xba\xbe\0\0\0\x3d\0\x05\
@@ -36,91 +35,91 @@ const MEMBERS: &[u8] = b"\xca\xfe\xba\xbe\0\0\0\x3d\0\x0c\
     \0\x01\0\x0b\0\x08\0\x01\0\x09\0\0\0\x0d\0\0\0\x01\0\0\0\x01\xb1\0\0\0\0\
     \0\0";
 
-fn add_member(told: &mut Vec<u8>, name: &Text, descriptor: &Text) -> Result<(), AllocError> {
-    told.push(b' ')?;
-    told.extend_from_slice(name.bytes())?;
-    told.push(b':')?;
-    told.extend_from_slice(descriptor.bytes())
+fn add<R: Abort>(rt: &R, told: &mut Vec<u8>, bytes: &[u8]) {
+    told.extend_from_slice(bytes).expect(rt, "memory");
 }
 
-fn add_super(told: &mut Vec<u8>, name: &Option<Text>) -> Result<(), AllocError> {
-    match name {
-        Some(name) => {
-            told.push(b' ')?;
-            told.extend_from_slice(name.bytes())
-        }
-        None => Ok(()),
+fn add_member<R: Abort>(rt: &R, told: &mut Vec<u8>, name: &Text, descriptor: &Text) {
+    add(rt, told, b" ");
+    add(rt, told, name.bytes());
+    add(rt, told, b":");
+    add(rt, told, descriptor.bytes());
+}
+
+fn add_super<R: Abort>(rt: &R, told: &mut Vec<u8>, name: &Option<Text>) {
+    if let Some(name) = name {
+        add(rt, told, b" ");
+        add(rt, told, name.bytes());
     }
 }
 
 /// The name, the superclass and the members.
-fn tell(told: &mut Vec<u8>, class: &ClassDesc) -> Result<(), AllocError> {
-    told.extend_from_slice(class.name.bytes())?;
-    add_super(told, &class.super_name)?;
+fn tell<R: Abort>(rt: &R, told: &mut Vec<u8>, class: &ClassDesc) {
+    add(rt, told, class.name.bytes());
+    add_super(rt, told, &class.super_name);
     for field in class.fields.items() {
-        add_member(told, &field.name, &field.descriptor)?;
+        add_member(rt, told, &field.name, &field.descriptor);
     }
     for method in class.methods.items() {
-        add_member(told, &method.name, &method.descriptor)?;
+        add_member(rt, told, &method.name, &method.descriptor);
     }
-    Ok(())
 }
 
 #[test]
-fn reads_classes(rt: HostRuntime) -> Result<(), Fail> {
+fn reads_classes(rt: HostRuntime) {
     let cases: [(&[u8], &[u8]); 4] = [
         (PLAIN, b"A java/lang/Object"),
         (REVERSED, b"A java/lang/Object"),
         (REPEATED, b"A java/lang/Object"),
         (MEMBERS, b"A java/lang/Object f:I p:()V <clinit>:()V m:()V"),
     ];
-    let alloc = rt.alloc();
     for (bytes, want) in cases {
-        let class = read_class(alloc, bytes)?;
-        let mut told = Vec::new(alloc);
-        tell(&mut told, &class)?;
+        let class = read_class(rt.alloc(), bytes).expect(&rt, "a class");
+        let mut told = Vec::new(rt.alloc());
+        tell(&rt, &mut told, &class);
         assert!(rt; told.as_slice() == want);
     }
-    let refused = matches!(read_class(alloc, LONGER), Err(ReadErr::Fault(_)));
+    let refused = matches!(read_class(rt.alloc(), LONGER), Err(ReadErr::Fault(_)));
     assert!(rt; refused);
-    Ok(())
 }
 
 /// A class with as many methods as `count`, whose names are the texts of its pool from first to last, and then again.
 ///
 /// No pool has more: one class, which is its own superclass, and the 65,533 texts A, ()V, m00000, m00001 and so on.
-fn class_of_methods(alloc: Global, count: u16) -> Result<Vec<u8>, AllocError> {
-    let front = b"\xca\xfe\xba\xbe\0\0\0\x3d\xff\xff\x07\0\x02\x01\0\x01A\x01\0\x03()V";
-    let mut file = Vec::from_slice(alloc, front)?;
+fn class_of_methods<R: Abort + AllocGlobal>(rt: &R, count: u16) -> Vec<u8> {
+    let mut file = Vec::new(rt.alloc());
+    add(
+        rt,
+        &mut file,
+        b"\xca\xfe\xba\xbe\0\0\0\x3d\xff\xff\x07\0\x02\x01\0\x01A\x01\0\x03()V",
+    );
     for number in 0..65_531u32 {
-        let entry = format!(in alloc; "\x01\0\x06m{number:05}")?;
-        file.extend_from_slice(entry.as_bytes())?;
+        let entry = format!(in rt.alloc(); "\x01\0\x06m{number:05}").expect(rt, "memory");
+        add(rt, &mut file, entry.as_bytes());
     }
-    file.extend_from_slice(b"\0\x21\0\x01\0\x01\0\0\0\0")?;
-    file.extend_from_slice(&count.to_be_bytes())?;
+    add(rt, &mut file, b"\0\x21\0\x01\0\x01\0\0\0\0");
+    add(rt, &mut file, &count.to_be_bytes());
     for number in 0..count {
         let name = 2 + number % 65_533;
-        file.extend_from_slice(b"\0\x01")?;
-        file.extend_from_slice(&name.to_be_bytes())?;
-        file.extend_from_slice(b"\0\x03\0\0")?;
+        add(rt, &mut file, b"\0\x01");
+        add(rt, &mut file, &name.to_be_bytes());
+        add(rt, &mut file, b"\0\x03\0\0");
     }
-    file.extend_from_slice(b"\0\0")?;
-    Ok(file)
+    add(rt, &mut file, b"\0\0");
+    file
 }
 
 #[test]
-fn reads_many_methods(rt: HostRuntime) -> Result<(), Fail> {
+fn reads_many_methods(rt: HostRuntime) {
     let repeated = ReadErr::Fault(ClassFault {
         offset: 0,
         kind: ClassKind::NotYet,
     });
     let cases: [(u16, Result<usize, ReadErr>); 2] = [(65_533, Ok(65_533)), (65_535, Err(repeated))];
-    let alloc = rt.alloc();
     for (count, want) in cases {
-        let file = class_of_methods(alloc, count)?;
+        let file = class_of_methods(&rt, count);
         assert!(rt; file.len() <= 16_777_216);
-        let read = read_class(alloc, &file).map(|class| class.methods.items().len());
-        assert_eq!(rt; read, want);
+        let read = read_class(rt.alloc(), &file).map(|class| class.methods.items().len());
+        assert!(rt; read == want);
     }
-    Ok(())
 }

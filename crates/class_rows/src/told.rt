@@ -4,234 +4,234 @@ use class_desc::{
     InnerEntry, MethodDesc, ParamEntry, Value,
 };
 use hdr_core::{List, Text};
-use std::alloc::{AllocError, Global};
+use std::process::Abort;
 
 pub trait Told {
     /// Adds the words of the value.
-    fn tell(&self, told: &mut Vec<u8>) -> Result<(), AllocError>;
+    fn tell<R: Abort>(&self, rt: &R, told: &mut Vec<u8>);
 }
 
-fn words_of<T: Told>(alloc: Global, value: &T) -> Result<Vec<u8>, AllocError> {
-    let mut told = Vec::new(alloc);
-    value.tell(&mut told)?;
-    Ok(told)
+fn words_of<R: Abort + AllocGlobal, T: Told>(rt: &R, value: &T) -> Vec<u8> {
+    let mut told = Vec::new(rt.alloc());
+    value.tell(rt, &mut told);
+    told
 }
 
 /// Whether both are told alike, and not in nothing.
-pub fn are_alike<T: Told>(alloc: Global, source: &T, copy: &T) -> Result<bool, AllocError> {
-    let wanted = words_of(alloc, source)?;
-    let told = words_of(alloc, copy)?;
-    Ok(!told.is_empty() && told == wanted)
+pub fn are_alike<R: Abort + AllocGlobal, T: Told>(rt: &R, source: &T, copy: &T) -> bool {
+    let wanted = words_of(rt, source);
+    let told = words_of(rt, copy);
+    !told.is_empty() && told == wanted
 }
 
-fn tell_word(told: &mut Vec<u8>, word: &[u8]) -> Result<(), AllocError> {
-    told.extend_from_slice(word)?;
-    told.extend_from_slice(b" ")
+fn tell_word<R: Abort>(rt: &R, told: &mut Vec<u8>, word: &[u8]) {
+    told.extend_from_slice(word).expect(rt, "memory");
+    told.extend_from_slice(b" ").expect(rt, "memory");
 }
 
-fn tell_number(told: &mut Vec<u8>, number: u16) -> Result<(), AllocError> {
-    tell_word(told, &u32::from(number).to_be_bytes())
+fn tell_number<R: Abort>(rt: &R, told: &mut Vec<u8>, number: u16) {
+    tell_word(rt, told, &number.to_be_bytes());
 }
 
 /// What the value is, and its words.
-fn tell_under<T: Told>(told: &mut Vec<u8>, name: &[u8], value: &T) -> Result<(), AllocError> {
-    tell_word(told, name)?;
-    value.tell(told)
+fn tell_under<R: Abort, T: Told>(rt: &R, told: &mut Vec<u8>, name: &[u8], value: &T) {
+    tell_word(rt, told, name);
+    value.tell(rt, told);
 }
 
 impl Told for Text {
-    fn tell(&self, told: &mut Vec<u8>) -> Result<(), AllocError> {
-        tell_word(told, self.bytes())
+    fn tell<R: Abort>(&self, rt: &R, told: &mut Vec<u8>) {
+        tell_word(rt, told, self.bytes());
     }
 }
 
 impl Told for bool {
-    fn tell(&self, told: &mut Vec<u8>) -> Result<(), AllocError> {
-        tell_word(told, if *self { b"yes" } else { b"no" })
+    fn tell<R: Abort>(&self, rt: &R, told: &mut Vec<u8>) {
+        tell_word(rt, told, if *self { b"yes" } else { b"no" });
     }
 }
 
 impl<T: Told> Told for Option<T> {
-    fn tell(&self, told: &mut Vec<u8>) -> Result<(), AllocError> {
+    fn tell<R: Abort>(&self, rt: &R, told: &mut Vec<u8>) {
         match self {
-            Some(value) => value.tell(told),
-            None => tell_word(told, b"none"),
+            Some(value) => value.tell(rt, told),
+            None => tell_word(rt, told, b"none"),
         }
     }
 }
 
 impl<T: Told> Told for List<T> {
-    fn tell(&self, told: &mut Vec<u8>) -> Result<(), AllocError> {
-        tell_word(told, b"(")?;
+    fn tell<R: Abort>(&self, rt: &R, told: &mut Vec<u8>) {
+        tell_word(rt, told, b"(");
         for item in self.items() {
-            item.tell(told)?;
+            item.tell(rt, told);
         }
-        tell_word(told, b")")
+        tell_word(rt, told, b")");
     }
 }
 
 impl Told for Value {
-    fn tell(&self, told: &mut Vec<u8>) -> Result<(), AllocError> {
+    fn tell<R: Abort>(&self, rt: &R, told: &mut Vec<u8>) {
         match self {
-            Value::Integer(number) => tell_word(told, &number.to_be_bytes()),
-            Value::Long(number) => tell_word(told, &number.to_be_bytes()),
-            Value::Raw32(bits) => tell_word(told, &bits.to_be_bytes()),
-            Value::Raw64(bits) => tell_word(told, &bits.to_be_bytes()),
-            Value::Str(text) => text.tell(told),
+            Value::Integer(number) => tell_word(rt, told, &number.to_be_bytes()),
+            Value::Long(number) => tell_word(rt, told, &number.to_be_bytes()),
+            Value::Raw32(bits) => tell_word(rt, told, &bits.to_be_bytes()),
+            Value::Raw64(bits) => tell_word(rt, told, &bits.to_be_bytes()),
+            Value::Str(text) => text.tell(rt, told),
         }
     }
 }
 
 #[cycle(tell_annotation)]
-fn tell_element(told: &mut Vec<u8>, value: &ElemValue) -> Result<(), AllocError> {
+fn tell_element<R: Abort>(rt: &R, told: &mut Vec<u8>, value: &ElemValue) {
     match value {
-        ElemValue::Const { tag, value } => tell_under(told, &[*tag], value),
+        ElemValue::Const { tag, value } => tell_under(rt, told, &[*tag], value),
         ElemValue::Enumerated { descriptor, name } => {
-            descriptor.tell(told)?;
-            name.tell(told)
+            descriptor.tell(rt, told);
+            name.tell(rt, told);
         }
-        ElemValue::ClassOf(descriptor) => descriptor.tell(told),
-        ElemValue::Nested(annotation) => tell_annotation(told, annotation.get()),
+        ElemValue::ClassOf(descriptor) => descriptor.tell(rt, told),
+        ElemValue::Nested(annotation) => tell_annotation(rt, told, annotation.get()),
         ElemValue::List(values) => {
             for value in values.items() {
-                tell_element(told, value)?;
+                tell_element(rt, told, value);
             }
-            tell_word(told, b")")
+            tell_word(rt, told, b")");
         }
     }
 }
 
 #[cycle(tell_annotation)]
-fn tell_annotation(told: &mut Vec<u8>, annotation: &AnnDesc) -> Result<(), AllocError> {
-    annotation.descriptor.tell(told)?;
+fn tell_annotation<R: Abort>(rt: &R, told: &mut Vec<u8>, annotation: &AnnDesc) {
+    annotation.descriptor.tell(rt, told);
     for pair in annotation.elements.items() {
-        pair.name.tell(told)?;
-        tell_element(told, &pair.value)?;
+        pair.name.tell(rt, told);
+        tell_element(rt, told, &pair.value);
     }
-    tell_word(told, b")")
+    tell_word(rt, told, b")");
 }
 
 impl Told for ElemValue {
-    fn tell(&self, told: &mut Vec<u8>) -> Result<(), AllocError> {
-        tell_element(told, self)
+    fn tell<R: Abort>(&self, rt: &R, told: &mut Vec<u8>) {
+        tell_element(rt, told, self);
     }
 }
 
 impl Told for AnnDesc {
-    fn tell(&self, told: &mut Vec<u8>) -> Result<(), AllocError> {
-        tell_annotation(told, self)
+    fn tell<R: Abort>(&self, rt: &R, told: &mut Vec<u8>) {
+        tell_annotation(rt, told, self);
     }
 }
 
 impl Told for InnerEntry {
-    fn tell(&self, told: &mut Vec<u8>) -> Result<(), AllocError> {
-        self.inner.tell(told)?;
-        self.outer.tell(told)?;
-        self.name.tell(told)?;
-        tell_number(told, self.flags)
+    fn tell<R: Abort>(&self, rt: &R, told: &mut Vec<u8>) {
+        self.inner.tell(rt, told);
+        self.outer.tell(rt, told);
+        self.name.tell(rt, told);
+        tell_number(rt, told, self.flags);
     }
 }
 
 impl Told for ParamEntry {
-    fn tell(&self, told: &mut Vec<u8>) -> Result<(), AllocError> {
-        self.name.tell(told)?;
-        tell_number(told, self.flags)
+    fn tell<R: Abort>(&self, rt: &R, told: &mut Vec<u8>) {
+        self.name.tell(rt, told);
+        tell_number(rt, told, self.flags);
     }
 }
 
 #[cycle(tell_attribute)]
-fn tell_attribute(told: &mut Vec<u8>, attr: &Attr) -> Result<(), AllocError> {
+fn tell_attribute<R: Abort>(rt: &R, told: &mut Vec<u8>, attr: &Attr) {
     match attr {
-        Attr::ConstantValue(value) => tell_under(told, b"constant", value),
-        Attr::Exceptions(classes) => tell_under(told, b"exceptions", classes),
-        Attr::Signature(text) => tell_under(told, b"signature", text),
-        Attr::Deprecated => tell_word(told, b"deprecated"),
-        Attr::Synthetic => tell_word(told, b"synthetic"),
-        Attr::InnerClasses(entries) => tell_under(told, b"inner", entries),
-        Attr::Components(components) => tell_components(told, components.items()),
-        Attr::PermittedSubclasses(classes) => tell_under(told, b"permitted", classes),
-        Attr::AnnotationDefault(value) => tell_under(told, b"default", value),
-        Attr::MethodParameters(entries) => tell_under(told, b"parameters", entries),
-        Attr::VisibleAnns(list) => tell_under(told, b"visible", list),
-        Attr::InvisibleAnns(list) => tell_under(told, b"invisible", list),
-        Attr::VisibleParamAnns(lists) => tell_under(told, b"visible", lists),
-        Attr::InvisibleParamAnns(lists) => tell_under(told, b"invisible", lists),
+        Attr::ConstantValue(value) => tell_under(rt, told, b"constant", value),
+        Attr::Exceptions(classes) => tell_under(rt, told, b"exceptions", classes),
+        Attr::Signature(text) => tell_under(rt, told, b"signature", text),
+        Attr::Deprecated => tell_word(rt, told, b"deprecated"),
+        Attr::Synthetic => tell_word(rt, told, b"synthetic"),
+        Attr::InnerClasses(entries) => tell_under(rt, told, b"inner", entries),
+        Attr::Components(components) => tell_components(rt, told, components.items()),
+        Attr::PermittedSubclasses(classes) => tell_under(rt, told, b"permitted", classes),
+        Attr::AnnotationDefault(value) => tell_under(rt, told, b"default", value),
+        Attr::MethodParameters(entries) => tell_under(rt, told, b"parameters", entries),
+        Attr::VisibleAnns(list) => tell_under(rt, told, b"visible", list),
+        Attr::InvisibleAnns(list) => tell_under(rt, told, b"invisible", list),
+        Attr::VisibleParamAnns(lists) => tell_under(rt, told, b"visible", lists),
+        Attr::InvisibleParamAnns(lists) => tell_under(rt, told, b"invisible", lists),
     }
 }
 
 #[cycle(tell_attribute)]
-fn tell_components(told: &mut Vec<u8>, components: &[ComponentDesc]) -> Result<(), AllocError> {
+fn tell_components<R: Abort>(rt: &R, told: &mut Vec<u8>, components: &[ComponentDesc]) {
     for component in components {
-        component.name.tell(told)?;
-        component.descriptor.tell(told)?;
+        component.name.tell(rt, told);
+        component.descriptor.tell(rt, told);
         for attr in component.attrs.items() {
-            tell_attribute(told, attr)?;
+            tell_attribute(rt, told, attr);
         }
     }
-    tell_word(told, b")")
+    tell_word(rt, told, b")");
 }
 
 impl Told for Attr {
-    fn tell(&self, told: &mut Vec<u8>) -> Result<(), AllocError> {
-        tell_attribute(told, self)
+    fn tell<R: Abort>(&self, rt: &R, told: &mut Vec<u8>) {
+        tell_attribute(rt, told, self);
     }
 }
 
 impl Told for FieldDesc {
-    fn tell(&self, told: &mut Vec<u8>) -> Result<(), AllocError> {
-        tell_number(told, self.flags)?;
-        self.name.tell(told)?;
-        self.descriptor.tell(told)?;
-        self.attrs.tell(told)
+    fn tell<R: Abort>(&self, rt: &R, told: &mut Vec<u8>) {
+        tell_number(rt, told, self.flags);
+        self.name.tell(rt, told);
+        self.descriptor.tell(rt, told);
+        self.attrs.tell(rt, told);
     }
 }
 
 impl Told for MethodDesc {
-    fn tell(&self, told: &mut Vec<u8>) -> Result<(), AllocError> {
-        tell_number(told, self.flags)?;
-        self.name.tell(told)?;
-        self.descriptor.tell(told)?;
-        self.attrs.tell(told)
+    fn tell<R: Abort>(&self, rt: &R, told: &mut Vec<u8>) {
+        tell_number(rt, told, self.flags);
+        self.name.tell(rt, told);
+        self.descriptor.tell(rt, told);
+        self.attrs.tell(rt, told);
     }
 }
 
 impl Told for ClassDesc {
-    fn tell(&self, told: &mut Vec<u8>) -> Result<(), AllocError> {
-        tell_number(told, self.minor)?;
-        tell_number(told, self.major)?;
-        tell_number(told, self.flags)?;
-        self.name.tell(told)?;
-        self.super_name.tell(told)?;
-        self.interfaces.tell(told)?;
-        self.fields.tell(told)?;
-        self.methods.tell(told)?;
-        self.attrs.tell(told)
+    fn tell<R: Abort>(&self, rt: &R, told: &mut Vec<u8>) {
+        tell_number(rt, told, self.minor);
+        tell_number(rt, told, self.major);
+        tell_number(rt, told, self.flags);
+        self.name.tell(rt, told);
+        self.super_name.tell(rt, told);
+        self.interfaces.tell(rt, told);
+        self.fields.tell(rt, told);
+        self.methods.tell(rt, told);
+        self.attrs.tell(rt, told);
     }
 }
 
 impl Told for Ann {
-    fn tell(&self, told: &mut Vec<u8>) -> Result<(), AllocError> {
-        self.visible.tell(told)?;
-        self.desc.tell(told)
+    fn tell<R: Abort>(&self, rt: &R, told: &mut Vec<u8>) {
+        self.visible.tell(rt, told);
+        self.desc.tell(rt, told);
     }
 }
 
 impl Told for Deprecations {
-    fn tell(&self, told: &mut Vec<u8>) -> Result<(), AllocError> {
-        self.own.tell(told)?;
-        self.fields.tell(told)?;
-        self.methods.tell(told)
+    fn tell<R: Abort>(&self, rt: &R, told: &mut Vec<u8>) {
+        self.own.tell(rt, told);
+        self.fields.tell(rt, told);
+        self.methods.tell(rt, told);
     }
 }
 
 impl Told for ClassAnns {
-    fn tell(&self, told: &mut Vec<u8>) -> Result<(), AllocError> {
-        self.own.tell(told)?;
-        self.fields.tell(told)?;
-        self.methods.tell(told)?;
-        self.formals.tell(told)?;
-        self.components.tell(told)?;
-        self.defaults.tell(told)?;
-        self.deprecated.tell(told)
+    fn tell<R: Abort>(&self, rt: &R, told: &mut Vec<u8>) {
+        self.own.tell(rt, told);
+        self.fields.tell(rt, told);
+        self.methods.tell(rt, told);
+        self.formals.tell(rt, told);
+        self.components.tell(rt, told);
+        self.defaults.tell(rt, told);
+        self.deprecated.tell(rt, told);
     }
 }

@@ -1,13 +1,12 @@
-ghost use Rattle.std.specs.Prelude.{◌≡◌, [], IfOk};
+ghost use Rattle.std.specs.Prelude.{◌≡◌, []};
 ghost use Rattle.std.specs.List.{AllByRecursion};
 ghost use Rattle.class_desc.specs.Layout.{HasNoAttributes};
 
-use crate::lists::none;
+use crate::lists::{list, none, text};
 use class_desc::{ClassDesc, FieldDesc, MethodDesc};
 use class_writer::{PoolErr, write_class};
-use hdr_core::{List, Memory, Text};
-use std::alloc::Global;
-use std::test::Fail;
+use hdr_core::List;
+use std::process::Abort;
 
 /// A public class, with at most one public member of each kind.
 struct Case<'a> {
@@ -20,59 +19,60 @@ struct Case<'a> {
     file: &'a [u8],
 }
 
-fn fields_of(alloc: Global, field: Option<(&[u8], &[u8])>) -> Result<List<FieldDesc>, Memory>
-    ensures { IfOk result (λ fields. AllByRecursion (λ f. f.attrs ≡ []) fields) }
+fn field_of<R: Abort + AllocGlobal>(rt: &R, name: &[u8], descriptor: &[u8]) -> FieldDesc
+    ensures { result.attrs ≡ [] }
 {
-    let mut fields = Vec::new(alloc);
-    if let Some((name, descriptor)) = field {
-        fields.push(FieldDesc {
-            flags: 0x0001,
-            name: Text::of(alloc, name)?,
-            descriptor: Text::of(alloc, descriptor)?,
-            attrs: none(alloc),
-        })?;
-    }
-    Ok(List::of(fields))
-}
-
-fn methods_of(alloc: Global, method: Option<(&[u8], &[u8])>) -> Result<List<MethodDesc>, Memory>
-    ensures { IfOk result (λ methods. AllByRecursion (λ m. m.attrs ≡ []) methods) }
-{
-    let mut methods = Vec::new(alloc);
-    if let Some((name, descriptor)) = method {
-        methods.push(MethodDesc {
-            flags: 0x0001,
-            name: Text::of(alloc, name)?,
-            descriptor: Text::of(alloc, descriptor)?,
-            attrs: none(alloc),
-        })?;
-    }
-    Ok(List::of(methods))
-}
-
-fn super_of(alloc: Global, name: Option<&[u8]>) -> Result<Option<Text>, Memory> {
-    match name {
-        Some(name) => Ok(Some(Text::of(alloc, name)?)),
-        None => Ok(None),
+    FieldDesc {
+        flags: 0x0001,
+        name: text(rt, name),
+        descriptor: text(rt, descriptor),
+        attrs: none(rt),
     }
 }
 
-fn class_of(alloc: Global, case: &Case<'_>) -> Result<ClassDesc, Memory>
-    ensures { IfOk result HasNoAttributes }
+fn method_of<R: Abort + AllocGlobal>(rt: &R, name: &[u8], descriptor: &[u8]) -> MethodDesc
+    ensures { result.attrs ≡ [] }
 {
-    let fields = fields_of(alloc, case.field)?;
-    let methods = methods_of(alloc, case.method)?;
-    Ok(ClassDesc {
+    MethodDesc {
+        flags: 0x0001,
+        name: text(rt, name),
+        descriptor: text(rt, descriptor),
+        attrs: none(rt),
+    }
+}
+
+fn fields_of<R: Abort + AllocGlobal>(rt: &R, field: Option<(&[u8], &[u8])>) -> List<FieldDesc>
+    ensures { AllByRecursion (λ f. f.attrs ≡ []) result }
+{
+    match field {
+        Some((name, descriptor)) => list(rt, [field_of(rt, name, descriptor)]),
+        None => none(rt),
+    }
+}
+
+fn methods_of<R: Abort + AllocGlobal>(rt: &R, method: Option<(&[u8], &[u8])>) -> List<MethodDesc>
+    ensures { AllByRecursion (λ m. m.attrs ≡ []) result }
+{
+    match method {
+        Some((name, descriptor)) => list(rt, [method_of(rt, name, descriptor)]),
+        None => none(rt),
+    }
+}
+
+fn class_of<R: Abort + AllocGlobal>(rt: &R, case: &Case<'_>) -> ClassDesc
+    ensures { HasNoAttributes result }
+{
+    ClassDesc {
         minor: 0,
         major: 61,
         flags: 0x0021,
-        name: Text::of(alloc, case.name)?,
-        super_name: super_of(alloc, case.super_name)?,
-        interfaces: none(alloc),
-        fields,
-        methods,
-        attrs: none(alloc),
-    })
+        name: text(rt, case.name),
+        super_name: case.super_name.map(|name| text(rt, name)),
+        interfaces: none(rt),
+        fields: fields_of(rt, case.field),
+        methods: methods_of(rt, case.method),
+        attrs: none(rt),
+    }
 }
 
 /// No members; a method; one text for a class, a field and its descriptor; no superclass.
@@ -107,65 +107,56 @@ const CASES: [Case<'static>; 4] = [
     },
 ];
 
-fn written(alloc: Global, case: &Case<'_>) -> Result<Vec<u8>, PoolErr> {
-    let desc = class_of(alloc, case)?;
-    write_class(alloc, &desc)
+fn written<R: Abort + AllocGlobal>(rt: &R, case: &Case<'_>) -> Result<Vec<u8>, PoolErr> {
+    write_class(rt.alloc(), &class_of(rt, case))
 }
 
 #[test]
-fn writes_files(rt: HostRuntime) -> Result<(), Fail> {
+fn writes_files(rt: HostRuntime) {
     for case in &CASES {
-        let file = written(rt.alloc(), case)?;
+        let file = written(&rt, case).expect(&rt, "a file");
         assert!(rt; file.as_slice() == case.file);
     }
-    Ok(())
 }
 
 /// Methods of the names m0, m1 and so on.
-fn numbered_methods(alloc: Global, count: u32) -> Result<List<MethodDesc>, Memory>
-    ensures { IfOk result (λ methods. AllByRecursion (λ m. m.attrs ≡ []) methods) }
+fn numbered_methods<R: Abort + AllocGlobal>(rt: &R, count: u32) -> List<MethodDesc>
+    ensures { AllByRecursion (λ m. m.attrs ≡ []) result }
 {
-    let mut methods = Vec::new(alloc);
+    let mut methods = Vec::new(rt.alloc());
     for number in 0..count {
-        let name = format!(in alloc; "m{number}")?;
-        methods.push(MethodDesc {
-            flags: 0x0001,
-            name: Text::of(alloc, name.as_bytes())?,
-            descriptor: Text::of(alloc, b"()V")?,
-            attrs: none(alloc),
-        })?;
+        let name = format!(in rt.alloc(); "m{number}").expect(rt, "memory");
+        let method = method_of(rt, name.as_bytes(), b"()V");
+        methods.push(method).expect(rt, "memory");
     }
-    Ok(List::of(methods))
+    List::of(methods)
 }
 
 /// A class whose pool needs five entries and one for each method.
-fn class_of_methods(alloc: Global, count: u32) -> Result<ClassDesc, Memory>
-    ensures { IfOk result HasNoAttributes }
+fn class_of_methods<R: Abort + AllocGlobal>(rt: &R, count: u32) -> ClassDesc
+    ensures { HasNoAttributes result }
 {
-    let methods = numbered_methods(alloc, count)?;
-    Ok(ClassDesc {
+    ClassDesc {
         minor: 0,
         major: 61,
         flags: 0x0021,
-        name: Text::of(alloc, b"A")?,
-        super_name: Some(Text::of(alloc, b"java/lang/Object")?),
-        interfaces: none(alloc),
-        fields: none(alloc),
-        methods,
-        attrs: none(alloc),
-    })
+        name: text(rt, b"A"),
+        super_name: Some(text(rt, b"java/lang/Object")),
+        interfaces: none(rt),
+        fields: none(rt),
+        methods: numbered_methods(rt, count),
+        attrs: none(rt),
+    }
 }
 
-fn written_methods(alloc: Global, count: u32) -> Result<Vec<u8>, PoolErr> {
-    let desc = class_of_methods(alloc, count)?;
-    write_class(alloc, &desc)
+fn written_methods<R: Abort + AllocGlobal>(rt: &R, count: u32) -> Result<Vec<u8>, PoolErr> {
+    write_class(rt.alloc(), &class_of_methods(rt, count))
 }
 
 #[test]
-fn fills_pools(rt: HostRuntime) -> Result<(), Fail> {
-    let file = written_methods(rt.alloc(), 65_529)?;
+fn fills_pools(rt: HostRuntime) {
+    let file = written_methods(&rt, 65_529).expect(&rt, "a file");
     assert!(rt; file.get(8..10) == Some(b"\xff\xff".as_slice()));
-    let refused = written_methods(rt.alloc(), 65_530).err();
+    let refused = written_methods(&rt, 65_530).err();
     assert!(rt; refused == Some(PoolErr::PoolFull { needed: 65_535 }));
-    Ok(())
 }

@@ -3,4 +3,4 @@ use Rattle.std.specs.List.{AllByRecursion}
 use Rattle.class_rows.proofs.writing.numbered_methods.Given as goal
 
 abbrev pub invariant-loop-number : goal.invariant-loop-number
-invariant-loop-number l = AllByRecursion (λ m. m.attrs ≡ []) l.methods.items
+invariant-loop-number g l = AllByRecursion (λ m. m.attrs ≡ []) l.methods.items
