@@ -64,7 +64,7 @@ fn told_tokens(rt: &impl Abort, alloc: Global, tokens: &[Token]) -> String {
 
 fn push_kind(rt: &impl Abort, alloc: Global, text: &mut String, kind: &TokenKind) {
     match kind {
-        TokenKind::Word(word) => push_bytes(rt, text, word.bytes()),
+        TokenKind::Word(word) => push_bytes(rt, alloc, text, word.bytes()),
         TokenKind::Keyword(keyword) => {
             push_formatted(rt, text, format!(in alloc; "<{:?}>", *keyword));
         }
@@ -90,7 +90,7 @@ fn push_literal(rt: &impl Abort, alloc: Global, text: &mut String, literal: &Lex
         }
         LexLit::Str(string) => {
             push(rt, text, "\"");
-            push_bytes(rt, text, string.bytes());
+            push_bytes(rt, alloc, text, string.bytes());
             push(rt, text, "\"");
         }
     }
@@ -128,22 +128,12 @@ fn push_number(rt: &impl Abort, alloc: Global, text: &mut String, number: u64) {
     push_formatted(rt, text, format!(in alloc; "{number}"));
 }
 
-/// The hexadecimal digit of a number below 16.
-fn hexadecimal(digit: u8) -> char {
-    match b"0123456789ABCDEF".get(digit as usize) {
-        Some(letter) => char::from(*letter),
-        None => '?',
-    }
-}
-
-fn push_bytes(rt: &impl Abort, text: &mut String, bytes: &[u8]) {
+fn push_bytes(rt: &impl Abort, alloc: Global, text: &mut String, bytes: &[u8]) {
     for byte in bytes {
         if *byte >= 0x20 && *byte < 0x7F && *byte != b'"' && *byte != b'\\' {
             text.push(char::from(*byte)).expect(rt, "memory");
         } else {
-            push(rt, text, "\\x");
-            text.push(hexadecimal(*byte / 16)).expect(rt, "memory");
-            text.push(hexadecimal(*byte % 16)).expect(rt, "memory");
+            push_formatted(rt, text, format!(in alloc; "\\x{:02X}", *byte));
         }
     }
 }
