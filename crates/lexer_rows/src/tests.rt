@@ -5,173 +5,157 @@ use crate::rows::{
 };
 use java_lexer::{LexErr, LexLit, Lexer, Token, TokenKind};
 use std::alloc::{AllocError, Global};
+use std::process::Abort;
 
-/// What is told of a text that is fed whole, as the rows write it.
-fn whole(alloc: Global, source: &[u8]) -> Result<String, AllocError> {
-    let mut text = String::new(alloc);
-    let mut line = 1;
+/// The tokens of a text that is fed whole.
+fn whole(rt: &impl Abort, alloc: Global, source: &[u8]) -> Result<Vec<Token>, LexErr> {
+    assert!(rt; source.len() <= 1_000_000);
     let mut lexer = Lexer::start(alloc);
-    if source.len() > 1_000_000 {
-        return Ok(text);
-    }
-    match lexer.feed(alloc, source) {
-        Ok(tokens) => push_tokens(alloc, &mut text, &mut line, tokens.as_slice())?,
-        Err(error) => return failure(alloc, error),
-    }
-    match lexer.finish(alloc) {
-        Ok(tokens) => push_tokens(alloc, &mut text, &mut line, tokens.as_slice())?,
-        Err(error) => return failure(alloc, error),
-    }
-    Ok(text)
+    let mut tokens = lexer.feed(alloc, source)?;
+    append(rt, &mut tokens, lexer.finish(alloc)?);
+    Ok(tokens)
 }
 
-/// The same of a text that is fed byte by byte.
-fn byte_by_byte(alloc: Global, source: &[u8]) -> Result<String, AllocError> {
-    let mut text = String::new(alloc);
-    let mut line = 1;
+/// The tokens of a text that is fed byte by byte.
+fn byte_by_byte(rt: &impl Abort, alloc: Global, source: &[u8]) -> Result<Vec<Token>, LexErr> {
+    assert!(rt; source.len() <= 1_000_000);
     let mut lexer = Lexer::start(alloc);
-    if source.len() > 1_000_000 {
-        return Ok(text);
-    }
+    let mut tokens = Vec::new(alloc);
     for index in 0..source.len() {
-        match lexer.feed(alloc, &source[index..index + 1]) {
-            Ok(tokens) => push_tokens(alloc, &mut text, &mut line, tokens.as_slice())?,
-            Err(error) => return failure(alloc, error),
+        let piece = &source[index..index + 1];
+        append(rt, &mut tokens, lexer.feed(alloc, piece)?);
+    }
+    append(rt, &mut tokens, lexer.finish(alloc)?);
+    Ok(tokens)
+}
+
+fn append(rt: &impl Abort, tokens: &mut Vec<Token>, mut more: Vec<Token>) {
+    tokens.append(&mut more).expect(rt, "memory");
+}
+
+/// Tokens, or the fault in their place, as the rows write them.
+fn told(rt: &impl Abort, alloc: Global, tokens: Result<Vec<Token>, LexErr>) -> String {
+    match tokens {
+        Ok(tokens) => told_tokens(rt, alloc, &tokens),
+        Err(LexErr::Fault(fault)) => {
+            format!(in alloc; "!{} {:?}", fault.line, fault.kind).expect(rt, "memory")
         }
-    }
-    match lexer.finish(alloc) {
-        Ok(tokens) => push_tokens(alloc, &mut text, &mut line, tokens.as_slice())?,
-        Err(error) => return failure(alloc, error),
-    }
-    Ok(text)
-}
-
-fn failure(alloc: Global, error: LexErr) -> Result<String, AllocError> {
-    match error {
-        LexErr::Fault(fault) => format!(in alloc; "!{} {:?}", fault.line, fault.kind),
-        LexErr::Memory => Err(AllocError),
+        Err(LexErr::Memory) => rt.panic("memory"),
     }
 }
 
-fn push_tokens(
-    alloc: Global,
-    text: &mut String,
-    line: &mut u32,
-    tokens: &[Token],
-) -> Result<(), AllocError> {
+fn told_tokens(rt: &impl Abort, alloc: Global, tokens: &[Token]) -> String {
+    let mut text = String::new(alloc);
+    let mut line = 1;
     for token in tokens {
         if !text.is_empty() {
-            text.push(' ')?;
+            push(rt, &mut text, " ");
         }
-        if token.line != *line {
-            text.push('@')?;
-            push_number(alloc, text, token.line as u64)?;
-            text.push(' ')?;
-            *line = token.line;
+        if token.line != line {
+            push(rt, &mut text, "@");
+            push_number(rt, alloc, &mut text, token.line as u64);
+            push(rt, &mut text, " ");
+            line = token.line;
         }
-        push_kind(alloc, text, &token.kind)?;
+        push_kind(rt, alloc, &mut text, &token.kind);
     }
-    Ok(())
+    text
 }
 
-fn push_kind(alloc: Global, text: &mut String, kind: &TokenKind) -> Result<(), AllocError> {
+fn push_kind(rt: &impl Abort, alloc: Global, text: &mut String, kind: &TokenKind) {
     match kind {
-        TokenKind::Word(word) => push_bytes(text, word.bytes()),
+        TokenKind::Word(word) => push_bytes(rt, alloc, text, word.bytes()),
         TokenKind::Keyword(keyword) => {
-            text.push_str(format!(in alloc; "<{:?}>", *keyword)?.as_str())
+            push_formatted(rt, text, format!(in alloc; "<{:?}>", *keyword));
         }
-        TokenKind::Op(operator) => text.push_str(format!(in alloc; ":{:?}", *operator)?.as_str()),
-        TokenKind::Lit(
-            LexLit::Int {
-                value,
-                decimal,
-                long,
-            },
-        ) => push_integer(alloc, text, *value, *decimal, *long),
-        TokenKind::Lit(LexLit::Real { double }) => {
-            text.push_str(if *double { "~double" } else { "~float" })
+        TokenKind::Op(operator) => {
+            push_formatted(rt, text, format!(in alloc; ":{:?}", *operator));
         }
-        TokenKind::Lit(LexLit::Char(unit)) => {
-            text.push('\'')?;
-            push_number(alloc, text, *unit as u64)
+        TokenKind::Lit(literal) => push_literal(rt, alloc, text, literal),
+    }
+}
+
+fn push_literal(rt: &impl Abort, alloc: Global, text: &mut String, literal: &LexLit) {
+    match literal {
+        LexLit::Int {
+            value,
+            decimal,
+            long,
+        } => push_integer(rt, alloc, text, *value, *decimal, *long),
+        LexLit::Real { double: true } => push(rt, text, "~double"),
+        LexLit::Real { double: false } => push(rt, text, "~float"),
+        LexLit::Char(unit) => {
+            push(rt, text, "'");
+            push_number(rt, alloc, text, *unit as u64);
         }
-        TokenKind::Lit(LexLit::Str(string)) => {
-            text.push('"')?;
-            push_bytes(text, string.bytes())?;
-            text.push('"')
+        LexLit::Str(string) => {
+            push(rt, text, "\"");
+            push_bytes(rt, alloc, text, string.bytes());
+            push(rt, text, "\"");
         }
     }
 }
 
 fn push_integer(
+    rt: &impl Abort,
     alloc: Global,
     text: &mut String,
     value: Option<u64>,
     decimal: bool,
     long: bool,
-) -> Result<(), AllocError> {
+) {
     if !decimal {
-        text.push('x')?;
+        push(rt, text, "x");
     }
     match value {
-        Some(value) => push_number(alloc, text, value)?,
-        None => text.push('?')?,
+        Some(value) => push_number(rt, alloc, text, value),
+        None => push(rt, text, "?"),
     }
     if long {
-        text.push('L')?;
-    }
-    Ok(())
-}
-
-fn push_number(alloc: Global, text: &mut String, number: u64) -> Result<(), AllocError> {
-    text.push_str(format!(in alloc; "{number}")?.as_str())
-}
-
-/// The hexadecimal digit of a number below 16.
-fn hexadecimal(digit: u8) -> char {
-    match b"0123456789ABCDEF".get(digit as usize) {
-        Some(letter) => char::from(*letter),
-        None => '?',
+        push(rt, text, "L");
     }
 }
 
-fn push_bytes(text: &mut String, bytes: &[u8]) -> Result<(), AllocError> {
+fn push(rt: &impl Abort, text: &mut String, piece: &str) {
+    text.push_str(piece).expect(rt, "memory");
+}
+
+fn push_formatted(rt: &impl Abort, text: &mut String, piece: Result<String, AllocError>) {
+    push(rt, text, piece.expect(rt, "memory").as_str());
+}
+
+fn push_number(rt: &impl Abort, alloc: Global, text: &mut String, number: u64) {
+    push_formatted(rt, text, format!(in alloc; "{number}"));
+}
+
+fn push_bytes(rt: &impl Abort, alloc: Global, text: &mut String, bytes: &[u8]) {
     for byte in bytes {
         if *byte >= 0x20 && *byte < 0x7F && *byte != b'"' && *byte != b'\\' {
-            text.push(char::from(*byte))?;
+            text.push(char::from(*byte)).expect(rt, "memory");
         } else {
-            text.push_str("\\x")?;
-            text.push(hexadecimal(*byte / 16))?;
-            text.push(hexadecimal(*byte % 16))?;
+            push_formatted(rt, text, format!(in alloc; "\\x{:02X}", *byte));
         }
     }
-    Ok(())
 }
 
-/// The rows that are told otherwise.
-fn wrong(alloc: Global, rows: &[Row]) -> Result<String, AllocError> {
-    let mut text = String::new(alloc);
-    for row in rows {
-        push_wrong(alloc, &mut text, row.0.as_bytes(), row.1)?;
-    }
-    Ok(text)
+/// Checks what is told of a text that is fed whole, and byte by byte.
+fn check(rt: &impl Abort, alloc: Global, source: &[u8], wanted: &str) {
+    let at_once = told(rt, alloc, whole(rt, alloc, source));
+    assert!(rt;
+        at_once.as_str() == wanted,
+        "{wanted} was told as {at_once}"
+    );
+    let in_bytes = told(rt, alloc, byte_by_byte(rt, alloc, source));
+    assert!(rt;
+        in_bytes.as_str() == wanted,
+        "{wanted} was told byte by byte as {in_bytes}"
+    );
 }
 
-fn push_wrong(
-    alloc: Global,
-    text: &mut String,
-    source: &[u8],
-    wanted: &str,
-) -> Result<(), AllocError> {
-    let told = whole(alloc, source)?;
-    if told.as_str() != wanted {
-        text.push_str(format!(in alloc; "{wanted} was told as {told}\n")?.as_str())?;
+fn check_rows(rt: &impl Abort, alloc: Global, rows: &[Row]) {
+    for (text, wanted) in rows {
+        check(rt, alloc, text.as_bytes(), wanted);
     }
-    let told = byte_by_byte(alloc, source)?;
-    if told.as_str() != wanted {
-        text.push_str(format!(in alloc; "{wanted} was told byte by byte as {told}\n")?.as_str())?;
-    }
-    Ok(())
 }
 
 #[test]
@@ -185,29 +169,28 @@ fn tells_the_tokens_of_texts(rt: HostRuntime) {
         EXAMPLES.as_slice(),
     ];
     for rows in tables {
-        let wrong = wrong(rt.alloc(), rows).expect(&rt, "memory");
-        assert_eq!(rt; wrong.as_str(), "");
+        check_rows(&rt, rt.alloc(), rows);
     }
 }
 
+/// Bytes that are no text.
+const BROKEN: [(&[u8], &str); 11] = [
+    (b"\xFF", "!1 Utf8"),
+    (b"abc\xFF", "!1 Utf8"),
+    (b"\"abc\xFF", "!1 NoToken"),
+    (b"//x\xFF", "!1 Utf8"),
+    (b"/*\xFF", "!1 NoToken"),
+    (b"a\n\xC3", "!2 Utf8"),
+    (b"\xC0\x80", "!1 Utf8"),
+    (b"\xED\xA0\x80", "!1 Utf8"),
+    (b"\n\n\xF5", "!3 Utf8"),
+    (b"a \xE2\x82", "!1 Utf8"),
+    (b"\x1A\xFF", "!1 Utf8"),
+];
+
 #[test]
 fn finds_bytes_that_are_no_utf8(rt: HostRuntime) {
-    let rows = [
-        (b"\xFF".as_slice(), "!1 Utf8"),
-        (b"abc\xFF".as_slice(), "!1 Utf8"),
-        (b"\"abc\xFF".as_slice(), "!1 NoToken"),
-        (b"//x\xFF".as_slice(), "!1 Utf8"),
-        (b"/*\xFF".as_slice(), "!1 NoToken"),
-        (b"a\n\xC3".as_slice(), "!2 Utf8"),
-        (b"\xC0\x80".as_slice(), "!1 Utf8"),
-        (b"\xED\xA0\x80".as_slice(), "!1 Utf8"),
-        (b"\n\n\xF5".as_slice(), "!3 Utf8"),
-        (b"a \xE2\x82".as_slice(), "!1 Utf8"),
-        (b"\x1A\xFF".as_slice(), "!1 Utf8"),
-    ];
-    let mut text = String::new(rt.alloc());
-    for (source, wanted) in rows {
-        push_wrong(rt.alloc(), &mut text, source, wanted).expect(&rt, "memory");
+    for (source, wanted) in &BROKEN {
+        check(&rt, rt.alloc(), source, wanted);
     }
-    assert_eq!(rt; text.as_str(), "");
 }

@@ -6,7 +6,6 @@ use descriptor_sig::{SigErr, read_descriptor};
 use hdr_core::Text;
 use std::alloc::Global;
 use std::process::Abort;
-use std::test::Fail;
 
 const DESCRIPTORS: [(&[u8], &[u8]); 24] = [
     (b"B", b"#B"),
@@ -88,35 +87,31 @@ const BAD: [(&[u8], u32); 46] = [
     (b"(I)V^", 4),
 ];
 
-fn read(alloc: Global, text: &[u8]) -> Result<JSig, SigErr> {
-    let text = Text::of(alloc, text)?;
-    if text.bytes().len() < 1_000_000 {
-        read_descriptor(alloc, &text)
-    } else {
-        Err(SigErr::Memory)
-    }
+fn read(rt: &impl Abort, alloc: Global, text: &[u8]) -> Result<JSig, SigErr> {
+    assert!(rt; text.len() < 1_000_000);
+    read_descriptor(alloc, &Text::of(alloc, text).expect(rt, "memory"))
+}
+
+fn expect_tree(rt: &impl Abort, alloc: Global, text: &[u8], tree: &[u8]) {
+    check_tree(rt, alloc, text, read(rt, alloc, text), tree);
 }
 
 fn refuses(rt: &impl Abort, alloc: Global, text: &[u8], at: u32) {
-    assert!(rt;
-        read(alloc, text).err() == Some(SigErr::BadText { at }),
-        "{text:?}"
-    );
+    let error = read(rt, alloc, text).err();
+    assert!(rt; error == Some(SigErr::BadText { at }), "{text:?}");
 }
 
 #[test]
-fn reads_copies_and_writes_descriptors(rt: HostRuntime) -> Result<(), Fail> {
-    let alloc = rt.alloc();
-    for (text, tree) in DESCRIPTORS {
-        check_tree(&rt, alloc, text, read(alloc, text), tree)?;
+fn reads_copies_and_writes_descriptors(rt: HostRuntime) {
+    for (text, tree) in &DESCRIPTORS {
+        expect_tree(&rt, rt.alloc(), text, tree);
     }
-    Ok(())
 }
 
 #[test]
 fn refuses_other_texts(rt: HostRuntime) {
-    for (text, at) in BAD {
-        refuses(&rt, rt.alloc(), text, at);
+    for (text, at) in &BAD {
+        refuses(&rt, rt.alloc(), text, *at);
     }
 }
 
@@ -129,12 +124,12 @@ const DIMENSIONS: [(&[u8], u32, &[u8], u32); 4] = [
 ];
 
 #[test]
-fn counts_dimensions(rt: HostRuntime) -> Result<(), Fail> {
+fn counts_dimensions(rt: HostRuntime) {
     let alloc = rt.alloc();
-    let most = repeated(alloc, b"", b"[", 255, b"I")?;
-    check_tree(&rt, alloc, &most, read(alloc, &most), b"[255]#I")?;
-    for (front, count, end, at) in DIMENSIONS {
-        refuses(&rt, alloc, &repeated(alloc, front, b"[", count, end)?, at);
+    let most = repeated(&rt, alloc, b"", b"[", 255, b"I");
+    expect_tree(&rt, alloc, &most, b"[255]#I");
+    for (front, count, end, at) in &DIMENSIONS {
+        let text = repeated(&rt, alloc, front, b"[", *count, end);
+        refuses(&rt, alloc, &text, *at);
     }
-    Ok(())
 }

@@ -1,30 +1,38 @@
 //! Texts that repeat a piece, or are nested deep.
-use std::alloc::{AllocError, Global};
+use std::alloc::Global;
+use std::process::Abort;
 
 /// The text with its middle so many times.
 pub fn repeated(
+    rt: &impl Abort,
     alloc: Global,
     front: &[u8],
     middle: &[u8],
     times: u32,
     end: &[u8],
-) -> Result<Vec<u8>, AllocError> {
-    let mut text = Vec::from_slice(alloc, front)?;
+) -> Vec<u8> {
+    let mut text = Vec::new(alloc);
+    add(rt, &mut text, front);
     for _ in 0..times {
-        text.extend_from_slice(middle)?;
+        add(rt, &mut text, middle);
     }
-    text.extend_from_slice(end)?;
-    Ok(text)
+    add(rt, &mut text, end);
+    text
 }
 
 /// A text with type arguments nested so deep.
 pub fn nested(
+    rt: &impl Abort,
     alloc: Global,
     front: &[u8],
     opening: &[u8],
     depth: u32,
     end: &[u8],
-) -> Result<Vec<u8>, AllocError> {
-    let open = repeated(alloc, front, opening, depth, b"*")?;
-    repeated(alloc, &open, b">;", depth, end)
+) -> Vec<u8> {
+    let open = repeated(rt, alloc, front, opening, depth, b"*");
+    repeated(rt, alloc, &open, b">;", depth, end)
+}
+
+pub fn add(rt: &impl Abort, text: &mut Vec<u8>, piece: &[u8]) {
+    text.extend_from_slice(piece).expect(rt, "memory");
 }

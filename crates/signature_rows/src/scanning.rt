@@ -2,7 +2,6 @@ use crate::nesting::nested;
 use signature_scan::SigPlace::{ClassPlace, FieldPlace, MethodPlace};
 use signature_scan::{SigPlace, Verdict, scan};
 use std::process::Abort;
-use std::test::Fail;
 
 /// Signatures.
 const FINE: [(SigPlace, &str); 13] = [
@@ -99,17 +98,16 @@ const NESTED: [(SigPlace, &[u8], &[u8], &[u8], u32); 5] = [
 ];
 
 #[test]
-fn allows_64_levels_of_type_arguments(rt: HostRuntime) -> Result<(), Fail> {
+fn allows_64_levels_of_type_arguments(rt: HostRuntime) {
     let alloc = rt.alloc();
     for (place, front, opening, end, at) in &NESTED {
-        let fine = nested(alloc, front, opening, 64, end)?;
+        let fine = nested(&rt, alloc, front, opening, 64, end);
         expect(&rt, &fine, *place, Verdict::Fine);
-        let deep = nested(alloc, front, opening, 65, end)?;
+        let deep = nested(&rt, alloc, front, opening, 65, end);
         expect(&rt, &deep, *place, Verdict::TooDeep { at: *at });
-        let deeper = nested(alloc, front, opening, 70, end)?;
+        let deeper = nested(&rt, alloc, front, opening, 70, end);
         expect(&rt, &deeper, *place, Verdict::TooDeep { at: *at });
     }
-    let bad = nested(alloc, b"", b"LA<", 65, b"!")?;
+    let bad = nested(&rt, alloc, b"", b"LA<", 65, b"!");
     expect(&rt, &bad, FieldPlace, Verdict::BadText { at: 326 });
-    Ok(())
 }

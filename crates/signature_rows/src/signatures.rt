@@ -7,7 +7,6 @@ use descriptor_sig::{SigErr, SigPlace, read_signature};
 use hdr_core::Text;
 use std::alloc::Global;
 use std::process::Abort;
-use std::test::Fail;
 
 /// Fields: `#` is before a primitive type, `$` before a variable, the number of dimensions before an element,
 /// and a class is in braces, with its arguments in parentheses.
@@ -165,42 +164,39 @@ const BAD: [(SigPlace, &str, u32); 12] = [
     (MethodPlace, "()V^[LE;", 4),
 ];
 
-fn read(alloc: Global, text: &[u8], place: SigPlace) -> Result<JSig, SigErr> {
-    let text = Text::of(alloc, text)?;
-    if text.bytes().len() < 1_000_000 {
-        read_signature(alloc, &text, place)
-    } else {
-        Err(SigErr::Memory)
-    }
+fn read(rt: &impl Abort, alloc: Global, place: SigPlace, text: &[u8]) -> Result<JSig, SigErr> {
+    assert!(rt; text.len() < 1_000_000);
+    read_signature(alloc, &Text::of(alloc, text).expect(rt, "memory"), place)
 }
 
-fn expect_tree(
-    rt: &impl Abort,
-    alloc: Global,
-    place: SigPlace,
-    text: &[u8],
-    tree: &str,
-) -> Result<(), Fail> {
-    check_tree(rt, alloc, text, read(alloc, text, place), tree.as_bytes())
+fn expect_tree(rt: &impl Abort, alloc: Global, place: SigPlace, text: &[u8], tree: &str) {
+    check_tree(
+        rt,
+        alloc,
+        text,
+        read(rt, alloc, place, text),
+        tree.as_bytes(),
+    );
 }
 
 fn expect_error(rt: &impl Abort, alloc: Global, place: SigPlace, text: &[u8], error: SigErr) {
-    assert!(rt; read(alloc, text, place).err() == Some(error), "{text:?}");
+    assert!(rt;
+        read(rt, alloc, place, text).err() == Some(error),
+        "{text:?}"
+    );
+}
+
+fn expect_trees(rt: &impl Abort, alloc: Global, place: SigPlace, rows: &[(&str, &str)]) {
+    for (text, tree) in rows {
+        expect_tree(rt, alloc, place, text.as_bytes(), tree);
+    }
 }
 
 #[test]
-fn reads_copies_and_writes_each_form(rt: HostRuntime) -> Result<(), Fail> {
-    let alloc = rt.alloc();
-    for (place, rows) in [
-        (FieldPlace, FIELDS.as_slice()),
-        (ClassPlace, CLASSES.as_slice()),
-        (MethodPlace, METHODS.as_slice()),
-    ] {
-        for (text, tree) in rows {
-            expect_tree(&rt, alloc, place, text.as_bytes(), tree)?;
-        }
-    }
-    Ok(())
+fn reads_copies_and_writes_each_form(rt: HostRuntime) {
+    expect_trees(&rt, rt.alloc(), FieldPlace, &FIELDS);
+    expect_trees(&rt, rt.alloc(), ClassPlace, &CLASSES);
+    expect_trees(&rt, rt.alloc(), MethodPlace, &METHODS);
 }
 
 #[test]
@@ -213,7 +209,7 @@ fn refuses_other_texts(rt: HostRuntime) {
 
 /// Each front of a signature is refused at its end.
 #[test]
-fn refuses_cut_texts(rt: HostRuntime) -> Result<(), Fail> {
+fn refuses_cut_texts(rt: HostRuntime) {
     let alloc = rt.alloc();
     let text = b"<T:La/A<-TT;>.B;U::TT;LV:>(I[La;)[[J";
     for cut in 0..text.len() {
@@ -221,23 +217,23 @@ fn refuses_cut_texts(rt: HostRuntime) -> Result<(), Fail> {
         expect_error(&rt, alloc, MethodPlace, &text[..cut], error);
     }
     let tree = "T:{a/A(super $T).B} U:-&$T LV:- #I [1]{a} gives [2]#J";
-    expect_tree(&rt, alloc, MethodPlace, text, tree)
+    expect_tree(&rt, alloc, MethodPlace, text, tree);
 }
 
-/// Signatures have no limit of dimensions.
+/// Numbers of dimensions, of which signatures have no limit.
+const DIMENSIONS: [(u32, &str); 4] = [
+    (254, "[254]#I"),
+    (255, "[255]#I"),
+    (256, "[256]#I"),
+    (1000, "[1000]#I"),
+];
+
 #[test]
-fn reads_many_dimensions(rt: HostRuntime) -> Result<(), Fail> {
-    let alloc = rt.alloc();
-    for (dims, tree) in [
-        (254, "[254]#I"),
-        (255, "[255]#I"),
-        (256, "[256]#I"),
-        (1000, "[1000]#I"),
-    ] {
-        let text = repeated(alloc, b"", b"[", dims, b"I")?;
-        expect_tree(&rt, alloc, FieldPlace, &text, tree)?;
+fn reads_many_dimensions(rt: HostRuntime) {
+    for (dims, tree) in &DIMENSIONS {
+        let text = repeated(&rt, rt.alloc(), b"", b"[", *dims, b"I");
+        expect_tree(&rt, rt.alloc(), FieldPlace, &text, tree);
     }
-    Ok(())
 }
 
 /// What stands in front and behind, and where the 65th level opens.
@@ -251,13 +247,12 @@ const NESTED: [(SigPlace, &[u8], &[u8], u32); 6] = [
 ];
 
 #[test]
-fn reads_64_levels_of_type_arguments(rt: HostRuntime) -> Result<(), Fail> {
+fn reads_64_levels_of_type_arguments(rt: HostRuntime) {
     let alloc = rt.alloc();
     for (place, front, end, at) in &NESTED {
-        let fine = nested(alloc, front, b"LA<", 64, end)?;
-        assert!(rt; read(alloc, &fine, *place).is_ok(), "{fine:?}");
-        let deep = nested(alloc, front, b"LA<", 65, end)?;
+        let fine = nested(&rt, alloc, front, b"LA<", 64, end);
+        assert!(rt; read(&rt, alloc, *place, &fine).is_ok(), "{fine:?}");
+        let deep = nested(&rt, alloc, front, b"LA<", 65, end);
         expect_error(&rt, alloc, *place, &deep, SigErr::TooDeep { at: *at });
     }
-    Ok(())
 }

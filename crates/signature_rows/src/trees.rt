@@ -4,114 +4,106 @@
 //! in braces, with its arguments in parentheses. Type parameters stand first, with their class bounds, - for none, and
 //! their interface bounds; then the supertypes of a class, or the types of a method's parameters, its result and what
 //! it throws.
+use crate::nesting::add;
 use class_desc::{JArg, JParam, JPart, JSig, JType};
 use descriptor_sig::{SigErr, write_signature};
-use std::alloc::{AllocError, Global};
+use std::alloc::Global;
 use std::process::Abort;
-use std::test::Fail;
 
 #[cycle(tell)]
-fn tell_type(alloc: Global, told: &mut Vec<u8>, ty: &JType) -> Result<(), AllocError> {
+fn tell_type(rt: &impl Abort, told: &mut Vec<u8>, ty: &JType) {
     match ty {
-        JType::Void => told.extend_from_slice(b"void"),
-        JType::Prim(letter) => told.extend_from_slice(&[b'#', *letter]),
+        JType::Void => add(rt, told, b"void"),
+        JType::Prim(letter) => add(rt, told, &[b'#', *letter]),
         JType::Var(name) => {
-            told.extend_from_slice(b"$")?;
-            told.extend_from_slice(name.bytes())
+            add(rt, told, b"$");
+            add(rt, told, name.bytes());
         }
         JType::Array { element, dims } => {
-            told.extend_from_slice(format!(in alloc; "[{dims}]")?.as_bytes())?;
-            tell_type(alloc, told, element.get())
+            tell_dimensions(rt, told, *dims);
+            tell_type(rt, told, element.get());
         }
-        JType::Named(parts) => tell_class(alloc, told, parts.items()),
+        JType::Named(parts) => tell_class(rt, told, parts.items()),
     }
 }
 
+fn tell_dimensions(rt: &impl Abort, told: &mut Vec<u8>, dims: u32) {
+    let dims = format!(in *told.allocator(); "[{dims}]").expect(rt, "memory");
+    add(rt, told, dims.as_bytes());
+}
+
 #[cycle(tell)]
-fn tell_class(alloc: Global, told: &mut Vec<u8>, parts: &[JPart]) -> Result<(), AllocError> {
+fn tell_class(rt: &impl Abort, told: &mut Vec<u8>, parts: &[JPart]) {
     let mut before: &[u8] = b"{";
     for part in parts {
-        told.extend_from_slice(before)?;
-        told.extend_from_slice(part.name.bytes())?;
-        tell_arguments(alloc, told, part.args.items())?;
+        add(rt, told, before);
+        add(rt, told, part.name.bytes());
+        tell_arguments(rt, told, part.args.items());
         before = b".";
     }
-    told.extend_from_slice(b"}")
+    add(rt, told, b"}");
 }
 
 #[cycle(tell)]
-fn tell_arguments(alloc: Global, told: &mut Vec<u8>, args: &[JArg]) -> Result<(), AllocError> {
+fn tell_arguments(rt: &impl Abort, told: &mut Vec<u8>, args: &[JArg]) {
     if args.is_empty() {
-        return Ok(());
+        return;
     }
     let mut before: &[u8] = b"(";
     for arg in args {
-        told.extend_from_slice(before)?;
-        tell_argument(alloc, told, arg)?;
+        add(rt, told, before);
+        tell_argument(rt, told, arg);
         before = b",";
     }
-    told.extend_from_slice(b")")
+    add(rt, told, b")");
 }
 
 #[cycle(tell)]
-fn tell_argument(alloc: Global, told: &mut Vec<u8>, arg: &JArg) -> Result<(), AllocError> {
+fn tell_argument(rt: &impl Abort, told: &mut Vec<u8>, arg: &JArg) {
     match arg {
-        JArg::Exact(ty) => tell_after(alloc, told, b"is ", ty),
-        JArg::Extends(ty) => tell_after(alloc, told, b"extends ", ty),
-        JArg::Super(ty) => tell_after(alloc, told, b"super ", ty),
-        JArg::Any => told.extend_from_slice(b"any"),
+        JArg::Exact(ty) => tell_after(rt, told, b"is ", ty),
+        JArg::Extends(ty) => tell_after(rt, told, b"extends ", ty),
+        JArg::Super(ty) => tell_after(rt, told, b"super ", ty),
+        JArg::Any => add(rt, told, b"any"),
     }
 }
 
 #[cycle(tell)]
-fn tell_after(
-    alloc: Global,
-    told: &mut Vec<u8>,
-    before: &[u8],
-    ty: &JType,
-) -> Result<(), AllocError> {
-    told.extend_from_slice(before)?;
-    tell_type(alloc, told, ty)
+fn tell_after(rt: &impl Abort, told: &mut Vec<u8>, before: &[u8], ty: &JType) {
+    add(rt, told, before);
+    tell_type(rt, told, ty);
 }
 
-fn tell_types(
-    alloc: Global,
-    told: &mut Vec<u8>,
-    before: &[u8],
-    types: &[JType],
-    behind: &[u8],
-) -> Result<(), AllocError> {
+fn tell_types(rt: &impl Abort, told: &mut Vec<u8>, before: &[u8], types: &[JType], behind: &[u8]) {
     for ty in types {
-        tell_after(alloc, told, before, ty)?;
-        told.extend_from_slice(behind)?;
+        tell_after(rt, told, before, ty);
+        add(rt, told, behind);
     }
-    Ok(())
 }
 
-fn tell_params(alloc: Global, told: &mut Vec<u8>, params: &[JParam]) -> Result<(), AllocError> {
+fn tell_params(rt: &impl Abort, told: &mut Vec<u8>, params: &[JParam]) {
     for param in params {
-        told.extend_from_slice(param.name.bytes())?;
+        add(rt, told, param.name.bytes());
         match &param.class_bound {
-            Some(bound) => tell_after(alloc, told, b":", bound)?,
-            None => told.extend_from_slice(b":-")?,
+            Some(bound) => tell_after(rt, told, b":", bound),
+            None => add(rt, told, b":-"),
         }
-        tell_types(alloc, told, b"&", param.interface_bounds.items(), b"")?;
-        told.extend_from_slice(b" ")?;
+        tell_types(rt, told, b"&", param.interface_bounds.items(), b"");
+        add(rt, told, b" ");
     }
-    Ok(())
 }
 
-fn tell(alloc: Global, told: &mut Vec<u8>, sig: &JSig) -> Result<(), AllocError> {
+fn tell(rt: &impl Abort, told: &mut Vec<u8>, sig: &JSig) {
     match sig {
-        JSig::OfField(ty) => tell_type(alloc, told, ty),
+        JSig::OfField(ty) => tell_type(rt, told, ty),
         JSig::OfClass {
             params,
             super_type,
             interfaces,
         } => {
-            tell_params(alloc, told, params.items())?;
-            tell_after(alloc, told, b"extends ", super_type)?;
-            tell_types(alloc, told, b" implements ", interfaces.items(), b"")
+            tell_params(rt, told, params.items());
+            tell_after(rt, told, b"extends ", super_type);
+            tell_types(rt, told, b" implements ", interfaces.items(), b"");
         }
         JSig::OfMethod {
             params,
@@ -119,10 +111,10 @@ fn tell(alloc: Global, told: &mut Vec<u8>, sig: &JSig) -> Result<(), AllocError>
             ret,
             throws,
         } => {
-            tell_params(alloc, told, params.items())?;
-            tell_types(alloc, told, b"", formals.items(), b" ")?;
-            tell_after(alloc, told, b"gives ", ret)?;
-            tell_types(alloc, told, b" throws ", throws.items(), b"")
+            tell_params(rt, told, params.items());
+            tell_types(rt, told, b"", formals.items(), b" ");
+            tell_after(rt, told, b"gives ", ret);
+            tell_types(rt, told, b" throws ", throws.items(), b"");
         }
     }
 }
@@ -134,17 +126,17 @@ pub fn check_tree(
     text: &[u8],
     read: Result<JSig, SigErr>,
     tree: &[u8],
-) -> Result<(), Fail> {
-    let copy = read?.copy(alloc)?;
+) {
+    let sig = read.expect(rt, "what was read");
+    let copy = sig.copy(alloc).expect(rt, "memory");
     let mut told = Vec::new(alloc);
-    tell(alloc, &mut told, &copy)?;
+    tell(rt, &mut told, &copy);
     assert!(rt; told.as_slice() == tree, "{text:?}");
-    check_text(rt, alloc, &copy, text)
+    check_text(rt, alloc, &copy, text);
 }
 
 /// Checks what is written.
-pub fn check_text(rt: &impl Abort, alloc: Global, sig: &JSig, text: &[u8]) -> Result<(), Fail> {
-    let written = write_signature(alloc, sig)?;
+pub fn check_text(rt: &impl Abort, alloc: Global, sig: &JSig, text: &[u8]) {
+    let written = write_signature(alloc, sig).expect(rt, "memory");
     assert!(rt; written.bytes() == text, "{text:?}");
-    Ok(())
 }

@@ -2,36 +2,41 @@
 use crate::nesting::repeated;
 use crate::trees::check_text;
 use class_desc::{JArg, JPart, JSig, JType};
-use hdr_core::{List, Memory, Text};
+use hdr_core::{List, Text};
 use std::alloc::Global;
-use std::test::Fail;
+use std::process::Abort;
 
 const LEVELS: u32 = 10_000;
 
 /// The class `A` with these type arguments.
-fn class(alloc: Global, args: Vec<JArg>) -> Result<JType, Memory> {
+fn class(rt: &impl Abort, alloc: Global, args: Vec<JArg>) -> JType {
     let mut parts = Vec::new(alloc);
-    parts.push(JPart {
-        name: Text::of(alloc, b"A")?,
+    let part = JPart {
+        name: Text::of(alloc, b"A").expect(rt, "memory"),
         args: List::of(args),
-    })?;
-    Ok(JType::Named(List::of(parts)))
+    };
+    parts.push(part).expect(rt, "memory");
+    JType::Named(List::of(parts))
 }
 
-fn enclosing(alloc: Global, ty: JType) -> Result<JType, Memory> {
+fn enclosing(rt: &impl Abort, alloc: Global, ty: JType) -> JType {
     let mut args = Vec::new(alloc);
-    args.push(JArg::Exact(ty))?;
-    class(alloc, args)
+    args.push(JArg::Exact(ty)).expect(rt, "memory");
+    class(rt, alloc, args)
+}
+
+fn enclosed(rt: &impl Abort, alloc: Global) -> JType {
+    let mut ty = class(rt, alloc, Vec::new(alloc));
+    for _ in 0..LEVELS {
+        ty = enclosing(rt, alloc, ty);
+    }
+    ty
 }
 
 #[test]
-fn writes_and_drops_what_is_nested_deep(rt: HostRuntime) -> Result<(), Fail> {
+fn writes_and_drops_what_is_nested_deep(rt: HostRuntime) {
     let alloc = rt.alloc();
-    let mut ty = class(alloc, Vec::new(alloc))?;
-    for _ in 0..LEVELS {
-        ty = enclosing(alloc, ty)?;
-    }
-    let open = repeated(alloc, b"", b"LA<", LEVELS, b"LA;")?;
-    let text = repeated(alloc, &open, b">;", LEVELS, b"")?;
-    check_text(&rt, alloc, &JSig::OfField(ty), &text)
+    let open = repeated(&rt, alloc, b"", b"LA<", LEVELS, b"LA;");
+    let text = repeated(&rt, alloc, &open, b">;", LEVELS, b"");
+    check_text(&rt, alloc, &JSig::OfField(enclosed(&rt, alloc)), &text);
 }

@@ -1,9 +1,9 @@
 //! Token lists and their segments, both written as words with blanks between them.
-use hdr_core::{List, Memory, Text};
+use hdr_core::Text;
 use java_token::{Kw, LexLit, OpTok, Token, TokenKind};
 use segments::{SegEnd, SegErr, Segment, segments};
 use std::alloc::Global;
-use std::test::Fail;
+use std::process::Abort;
 
 /// Each list, and its segments: `~` ends a tail, `%` and a line a skipped group, and a class body stands between
 /// `<<` and `>>`. A `/` begins the next line.
@@ -193,27 +193,26 @@ const KEYWORDS: [(&str, Kw); 7] = [
     ("void", Kw::Void),
 ];
 
-fn push(tokens: &mut Vec<Token>, kind: TokenKind, line: u32) -> Result<(), Memory> {
-    tokens.push(Token { kind, line })?;
-    Ok(())
+fn push(rt: &impl Abort, tokens: &mut Vec<Token>, kind: TokenKind, line: u32) {
+    tokens.push(Token { kind, line }).expect(rt, "memory");
 }
 
 /// `count` class bodies in each other, each on a line of its own.
-fn nested(alloc: Global, count: u32) -> Result<Vec<Token>, Memory> {
+fn nested(rt: &impl Abort, alloc: Global, count: u32) -> Vec<Token> {
     let mut tokens = Vec::new(alloc);
     for line in 1..=count {
-        push(&mut tokens, TokenKind::Keyword(Kw::Class), line)?;
-        push(&mut tokens, word(alloc, "A")?, line)?;
-        push(&mut tokens, TokenKind::Op(OpTok::LeftBrace), line)?;
+        push(rt, &mut tokens, TokenKind::Keyword(Kw::Class), line);
+        push(rt, &mut tokens, word(rt, alloc, "A"), line);
+        push(rt, &mut tokens, TokenKind::Op(OpTok::LeftBrace), line);
     }
     for line in 1..=count {
-        push(&mut tokens, TokenKind::Op(OpTok::RightBrace), line)?;
+        push(rt, &mut tokens, TokenKind::Op(OpTok::RightBrace), line);
     }
-    Ok(tokens)
+    tokens
 }
 
-fn word(alloc: Global, text: &str) -> Result<TokenKind, Memory> {
-    Ok(TokenKind::Word(Text::of(alloc, text.as_bytes())?))
+fn word(rt: &impl Abort, alloc: Global, text: &str) -> TokenKind {
+    TokenKind::Word(Text::of(alloc, text.as_bytes()).expect(rt, "memory"))
 }
 
 fn number(value: u32) -> TokenKind {
@@ -242,97 +241,90 @@ fn keyword(text: &str) -> Option<Kw> {
     None
 }
 
-fn kind(alloc: Global, text: &str) -> Result<TokenKind, Memory> {
+fn kind(rt: &impl Abort, alloc: Global, text: &str) -> TokenKind {
     if let Some(operator) = operator(text) {
-        return Ok(TokenKind::Op(operator));
+        return TokenKind::Op(operator);
     }
     if let Some(keyword) = keyword(text) {
-        return Ok(TokenKind::Keyword(keyword));
+        return TokenKind::Keyword(keyword);
     }
     match text.parse::<u32>() {
-        Ok(value) => Ok(number(value)),
-        Err(_) => word(alloc, text),
+        Ok(value) => number(value),
+        Err(_) => word(rt, alloc, text),
     }
 }
 
-fn tokens(alloc: Global, text: &str) -> Result<Vec<Token>, Memory> {
+fn tokens(rt: &impl Abort, alloc: Global, text: &str) -> Vec<Token> {
     let mut tokens = Vec::new(alloc);
     let mut line: u32 = 1;
     for word in text.split_whitespace() {
         if word == "/" {
             line = line.saturating_add(1);
         } else {
-            push(&mut tokens, kind(alloc, word)?, line)?;
+            push(rt, &mut tokens, kind(rt, alloc, word), line);
         }
     }
-    Ok(tokens)
+    tokens
 }
 
-fn write(alloc: Global, segments: &[Segment], out: &mut Vec<TokenKind>) -> Result<(), Memory> {
+/// Writes segments as in `CUTS`, all on the first line.
+fn write(rt: &impl Abort, alloc: Global, segments: &[Segment], out: &mut Vec<Token>) {
     for segment in segments {
         for token in segment.head.items() {
-            out.push(token.kind.copy(alloc)?)?;
+            push(rt, out, token.kind.copy(alloc).expect(rt, "memory"), 1);
         }
         match &segment.end {
-            SegEnd::Semi => out.push(TokenKind::Op(OpTok::Semicolon))?,
+            SegEnd::Semi => push(rt, out, TokenKind::Op(OpTok::Semicolon), 1),
             SegEnd::Skipped { line } => {
-                out.push(TokenKind::Op(OpTok::Percent))?;
-                out.push(number(*line))?;
+                push(rt, out, TokenKind::Op(OpTok::Percent), 1);
+                push(rt, out, number(*line), 1);
             }
-            SegEnd::Tail => out.push(TokenKind::Op(OpTok::Complement))?,
+            SegEnd::Tail => push(rt, out, TokenKind::Op(OpTok::Complement), 1),
             SegEnd::Body(body) => {
-                out.push(TokenKind::Op(OpTok::ShiftLeft))?;
-                write(alloc, body.items(), out)?;
-                out.push(TokenKind::Op(OpTok::ShiftRight))?;
+                push(rt, out, TokenKind::Op(OpTok::ShiftLeft), 1);
+                write(rt, alloc, body.items(), out);
+                push(rt, out, TokenKind::Op(OpTok::ShiftRight), 1);
             }
         }
     }
-    Ok(())
 }
 
 /// The segments of a list, written as in `CUTS`.
-fn cut(alloc: Global, text: &str) -> Result<Vec<TokenKind>, SegErr> {
-    let segments = segments(alloc, &tokens(alloc, text)?)?;
+fn cut(rt: &impl Abort, alloc: Global, text: &str) -> Vec<Token> {
+    let tokens = tokens(rt, alloc, text);
+    let segments = segments(alloc, &tokens).expect(rt, "segments");
     let mut written = Vec::new(alloc);
-    write(alloc, segments.items(), &mut written)?;
-    Ok(written)
-}
-
-fn is_written(segments: &[TokenKind], wanted: &[Token]) -> bool {
-    segments.len() == wanted.len() && segments.iter().zip(wanted).all(|(a, b)| *a == b.kind)
-}
-
-fn is_cut_to(alloc: Global, text: &str, wanted: &str) -> Result<bool, SegErr> {
-    let cut = cut(alloc, text)?;
-    let wanted = tokens(alloc, wanted)?;
-    Ok(is_written(&cut, &wanted))
+    write(rt, alloc, segments.items(), &mut written);
+    written
 }
 
 #[test]
-fn cuts(rt: HostRuntime) -> Result<(), Fail> {
+fn cuts(rt: HostRuntime) {
     for (text, wanted) in &CUTS {
-        assert!(rt; is_cut_to(rt.alloc(), text, wanted)?, "{text}");
+        let cut = cut(&rt, rt.alloc(), text);
+        let wanted = tokens(&rt, rt.alloc(), wanted);
+        assert!(rt; cut == wanted, "{text}");
     }
-    Ok(())
 }
 
-/// Why that many class bodies in each other have no segments.
-fn refusal_of_nested(alloc: Global, count: u32) -> Option<SegErr> {
-    match nested(alloc, count) {
-        Ok(tokens) => segments(alloc, &tokens).err(),
-        Err(Memory) => Some(SegErr::Memory),
-    }
+/// Why a list has no segments.
+fn refusal(alloc: Global, tokens: &[Token]) -> Option<SegErr> {
+    segments(alloc, tokens).err()
 }
 
 #[test]
 fn refusals(rt: HostRuntime) {
     for (text, line) in &WRONGS {
-        let refusal = cut(rt.alloc(), text).err();
-        assert!(rt;
-            refusal == Some(SegErr::Unbalanced { line: *line }),
-            "{text}"
-        );
+        let refusal = refusal(rt.alloc(), &tokens(&rt, rt.alloc(), text));
+        let unbalanced = Some(SegErr::Unbalanced { line: *line });
+        assert!(rt; refusal == unbalanced, "{text}");
     }
-    assert!(rt; refusal_of_nested(rt.alloc(), 64) == None);
-    assert!(rt; refusal_of_nested(rt.alloc(), 65) == Some(SegErr::TooDeep { line: 65 }));
+}
+
+#[test]
+fn allows_64_class_bodies_in_each_other(rt: HostRuntime) {
+    let alloc = rt.alloc();
+    assert!(rt; refusal(alloc, &nested(&rt, alloc, 64)) == None);
+    let too_deep = Some(SegErr::TooDeep { line: 65 });
+    assert!(rt; refusal(alloc, &nested(&rt, alloc, 65)) == too_deep);
 }

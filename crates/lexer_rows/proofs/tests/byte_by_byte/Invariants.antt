@@ -4,7 +4,7 @@ use Rattle.lexer_rows.proofs.tests.byte_by_byte.Given as goal
 
 -- the lexer takes bytes, and has taken those before the index
 abbrev pub invariant-loop-index : goal.invariant-loop-index
-invariant-loop-index l = record {
+invariant-loop-index g l = record {
   standing : l.lexer.standing ≡ standing.Open;
   taken : length l.lexer.fed ≡ l.index;
 }
