@@ -6,7 +6,7 @@ use std::process::Abort;
 /// File, path, line, code and name.
 type Row = (u32, &'static [u8], u32, Code, &'static [u8]);
 
-const ROWS: [Row; 2] = [
+const ROWS: &[Row] = &[
     (0, b"in/A.class", 0, Code::L1, b""),
     (1, b"b", 4_294_967_295, Code::L4, b"p/B"),
 ];
@@ -14,8 +14,8 @@ const ROWS: [Row; 2] = [
 const PRINTED: &[u8] =
     b"in/A.class:0: L1 file is longer than 16777216 bytes\nb:4294967295: L4 constant pool is full: p/B\n";
 
-fn diagnostic(rt: &impl Abort, alloc: Global, row: Row) -> Diag {
-    let (file, path, line, code, name) = row;
+fn diagnostic(rt: &impl Abort, alloc: Global, row: &Row) -> Diag {
+    let &(file, path, line, code, name) = row;
     Diag {
         file,
         path: text(rt, alloc, path),

@@ -15,9 +15,11 @@ fn file(rt: &impl Abort, alloc: Global, path: &str, bytes: &[u8]) -> HeldFile
     }
 }
 
+const FOUR: &[(&str, &[u8])] = &[("r/a", b"1"), ("r", b"2"), ("r.a", b"3"), ("r/a", b"4")];
+
 fn four_files(rt: &impl Abort, alloc: Global) -> Vec<HeldFile> {
     let mut files = Vec::new(alloc);
-    for (path, bytes) in [("r/a", b"1"), ("r", b"2"), ("r.a", b"3"), ("r/a", b"4")] {
+    for &(path, bytes) in FOUR {
         let item = file(rt, alloc, path, bytes);
         files.push(item).expect(rt, "memory");
     }
@@ -61,10 +63,11 @@ fn puts_but_at_the_listed_call(rt: HostRuntime) {
     let mut outs = MemOuts::of(rt.alloc(), failing);
     assert!(rt; outs.put("o/a", b"1") == Err(CallErr::Failed));
     outs.put("o/b", b"2").expect(&rt, "a file");
-    let written = outs.written();
-    assert!(rt; written.len() == 1);
-    assert!(rt; written[0].path.as_str() == "o/b");
-    assert!(rt; written[0].bytes.as_slice() == b"2".as_slice());
+    let [file] = outs.written() else {
+        panic!(rt; "other than one file was written")
+    };
+    assert!(rt; file.path.as_str() == "o/b");
+    assert!(rt; file.bytes.as_slice() == b"2".as_slice());
 }
 
 #[test]
