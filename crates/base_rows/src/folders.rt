@@ -17,20 +17,24 @@ fn below(rt: &impl Abort, alloc: Global, folder: &str, rest: &str) -> String {
     format!(in alloc; "{folder}/{rest}").expect(rt, "memory")
 }
 
-fn put<R: Abort + rt::Files + AllocGlobal + Copy + Drop>(
-    rt: &R,
-    folder: &str,
-    rest: &str,
-    bytes: &[u8],
-) {
-    let path = below(rt, rt.alloc(), folder, rest);
-    let put = DirOuts::of(*rt).put(path.as_str(), bytes);
-    put.expect(rt, "a file");
+const FILES: &[(&str, &[u8])] = &[("deep/er/b", b"beta"), ("a", b"alpha")];
+
+fn put_files<R: Abort + rt::Files + AllocGlobal + Copy + Drop>(rt: &R, folder: &str) {
+    let mut outs = DirOuts::of(*rt);
+    for &(rest, bytes) in FILES {
+        let path = below(rt, rt.alloc(), folder, rest);
+        outs.put(path.as_str(), bytes).expect(rt, "a file");
+    }
 }
 
-fn link<R: Abort + rt::Files + AllocGlobal>(rt: &R, folder: &str, rest: &str, target: &str) {
-    let path = below(rt, rt.alloc(), folder, rest);
-    symlink(rt, target, path.as_str()).expect(rt, "a link");
+/// Links to a file and to a folder, each with what it leads to.
+const LINKS: &[(&str, &str)] = &[("link", "a"), ("deep/up", "..")];
+
+fn make_links<R: Abort + rt::Files + AllocGlobal>(rt: &R, folder: &str) {
+    for &(rest, target) in LINKS {
+        let path = below(rt, rt.alloc(), folder, rest);
+        symlink(rt, target, path.as_str()).expect(rt, "a link");
+    }
 }
 
 /// Roots of every kind.
@@ -72,14 +76,11 @@ fn read_all<R: Abort + rt::Files + AllocGlobal + Copy + Drop>(rt: &R, folder: &s
 fn lists_and_reads_what_was_put(rt: HostRuntime) {
     let folder = make_folder(&rt).expect(&rt, "a folder");
     let folder = folder.as_str();
-    // Two files and, beside them, links to a file and to a folder.
-    put(&rt, folder, "deep/er/b", b"beta");
-    put(&rt, folder, "a", b"alpha");
-    link(&rt, folder, "link", "a");
-    link(&rt, folder, "deep/up", "..");
+    put_files(&rt, folder);
+    make_links(&rt, folder);
     let counts = list_roots(&rt, folder);
     let told = read_all(&rt, folder);
-    fs::remove_dir_all(&rt, folder).expect(&rt, "no folder");
+    fs::remove_dir_all(&rt, folder).expect(&rt, "a folder removed");
     assert!(rt; counts == [1, 1, 1, 2, 0, 0]);
     assert!(rt; told.as_str() == "/aalpha/deep/er/bbeta");
 }

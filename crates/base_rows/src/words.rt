@@ -12,7 +12,7 @@ const STRIPPED: &[(&str, &str, &str)] = &[
     // slashes at the end go
     ("ijar --input in/ --output out//", "in", "out"),
     ("ijar --input /in/a/ --output ./out", "/in/a", "./out"),
-    // no archive
+    // not the ending of an archive
     ("ijar --input a.JAR --output out", "a.JAR", "out"),
 ];
 
