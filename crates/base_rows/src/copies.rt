@@ -1,13 +1,14 @@
-use hdr_core::{List, Text, TryCopy};
-use std::test::Fail;
+use crate::building::text;
+use hdr_core::{List, TryCopy};
 
 #[test]
-fn copies(rt: HostRuntime) -> Result<(), Fail> {
+fn copies(rt: HostRuntime) {
     let mut items = Vec::new(rt.alloc());
-    for text in [b"one".as_slice(), b""] {
-        items.push(Text::of(rt.alloc(), text)?)?;
+    for bytes in [b"one".as_slice(), b""] {
+        let item = text(&rt, rt.alloc(), bytes);
+        items.push(item).expect(&rt, "memory");
     }
     let texts = Some(List::of(items));
-    assert!(rt; texts.try_copy(rt.alloc())? == texts);
-    Ok(())
+    let copy = texts.try_copy(rt.alloc()).expect(&rt, "memory");
+    assert!(rt; copy == texts);
 }

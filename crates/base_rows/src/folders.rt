@@ -1,10 +1,11 @@
 use hdr_core::{DirFiles, DirOuts, Files, Outs};
+use std::alloc::Global;
 use std::os::unix::fs::symlink;
-use std::test::Fail;
-use std::{env, fs, process};
+use std::process::Abort;
+use std::{env, fs, io, process, rt};
 
 /// An empty folder of the test's own.
-fn make_folder(rt: &HostRuntime) -> Result<String, Fail> {
+fn make_folder(rt: &HostRuntime) -> io::Result<String> {
     let above = env::temp_dir(rt)?;
     let number = process::id(rt.process());
     let folder = format!(in rt.alloc(); "{}/base_rows_{}", above.as_str(), number)?;
@@ -12,57 +13,74 @@ fn make_folder(rt: &HostRuntime) -> Result<String, Fail> {
     Ok(folder)
 }
 
-fn below(rt: &HostRuntime, folder: &str, rest: &str) -> Result<String, Fail> {
-    Ok(format!(in rt.alloc(); "{folder}/{rest}")?)
+fn below(rt: &impl Abort, alloc: Global, folder: &str, rest: &str) -> String {
+    format!(in alloc; "{folder}/{rest}").expect(rt, "memory")
 }
 
-/// Two files and, beside them, links to a file and to a folder.
-fn fill(rt: &HostRuntime, folder: &str) -> Result<(), Fail> {
+const FILES: &[(&str, &[u8])] = &[("deep/er/b", b"beta"), ("a", b"alpha")];
+
+fn put_files<R: Abort + rt::Files + AllocGlobal + Copy + Drop>(rt: &R, folder: &str) {
     let mut outs = DirOuts::of(*rt);
-    outs.put(below(rt, folder, "deep/er/b")?.as_str(), b"beta")?;
-    outs.put(below(rt, folder, "a")?.as_str(), b"alpha")?;
-    symlink(rt, "a", below(rt, folder, "link")?.as_str())?;
-    symlink(rt, "..", below(rt, folder, "deep/up")?.as_str())?;
-    Ok(())
+    for &(rest, bytes) in FILES {
+        let path = below(rt, rt.alloc(), folder, rest);
+        outs.put(path.as_str(), bytes).expect(rt, "a file");
+    }
+}
+
+/// Links to a file and to a folder, each with what it leads to.
+const LINKS: &[(&str, &str)] = &[("link", "a"), ("deep/up", "..")];
+
+fn make_links<R: Abort + rt::Files + AllocGlobal>(rt: &R, folder: &str) {
+    for &(rest, target) in LINKS {
+        let path = below(rt, rt.alloc(), folder, rest);
+        symlink(rt, target, path.as_str()).expect(rt, "a link");
+    }
 }
 
 /// Roots of every kind.
 const ROOTS: [&str; 6] = ["a", "link", "deep", "deep/up", "nothing", "a/below"];
 
 /// How many files are listed below each root.
-fn list_roots(rt: &HostRuntime, folder: &str) -> Result<[usize; 6], Fail> {
+fn list_roots<R: Abort + rt::Files + AllocGlobal + Copy + Drop>(
+    rt: &R,
+    folder: &str,
+) -> [usize; 6] {
     let mut files = DirFiles::of(*rt);
     let mut counts = [0; 6];
     for (count, rest) in counts.iter_mut().zip(ROOTS) {
-        let root = below(rt, folder, rest)?;
-        *count = files.list(rt.alloc(), root.as_str())?.len();
+        let root = below(rt, rt.alloc(), folder, rest);
+        let listed = files.list(rt.alloc(), root.as_str());
+        *count = listed.expect(rt, "a listing").len();
     }
-    Ok(counts)
+    counts
 }
 
 /// The files below the folder, in their order, each with its bytes.
-fn read_all(rt: &HostRuntime, folder: &str) -> Result<String, Fail> {
+fn read_all<R: Abort + rt::Files + AllocGlobal + Copy + Drop>(rt: &R, folder: &str) -> String {
     let mut files = DirFiles::of(*rt);
-    let mut paths = files.list(rt.alloc(), folder)?;
+    let mut paths = files.list(rt.alloc(), folder).expect(rt, "a listing");
     paths.sort_unstable();
     let mut told = String::new(rt.alloc());
     let mut bytes = Vec::new(rt.alloc());
     for path in &paths {
-        files.read(path.as_str(), &mut bytes)?;
-        told.push_str(path.as_str().trim_start_matches(folder))?;
-        told.push_str(str::from_utf8(&bytes)?)?;
+        files.read(path.as_str(), &mut bytes).expect(rt, "a file");
+        let text = str::from_utf8(&bytes).expect(rt, "UTF-8");
+        let rest = path.as_str().trim_start_matches(folder);
+        told.push_str(rest).expect(rt, "memory");
+        told.push_str(text).expect(rt, "memory");
     }
-    Ok(told)
+    told
 }
 
 #[test]
-fn lists_and_reads_what_was_put(rt: HostRuntime) -> Result<(), Fail> {
-    let folder = make_folder(&rt)?;
-    fill(&rt, folder.as_str())?;
-    let counts = list_roots(&rt, folder.as_str())?;
-    let told = read_all(&rt, folder.as_str())?;
-    fs::remove_dir_all(&rt, folder.as_str())?;
+fn lists_and_reads_what_was_put(rt: HostRuntime) {
+    let folder = make_folder(&rt).expect(&rt, "a folder");
+    let folder = folder.as_str();
+    put_files(&rt, folder);
+    make_links(&rt, folder);
+    let counts = list_roots(&rt, folder);
+    let told = read_all(&rt, folder);
+    fs::remove_dir_all(&rt, folder).expect(&rt, "a folder removed");
     assert!(rt; counts == [1, 1, 1, 2, 0, 0]);
     assert!(rt; told.as_str() == "/aalpha/deep/er/bbeta");
-    Ok(())
 }

@@ -1,81 +1,89 @@
+use crate::building::words;
 use jobs::{Job, job_of};
 use std::alloc::Global;
-use std::test::Fail;
+use std::process::Abort;
 
-fn words_of(alloc: Global, line: &str) -> Result<Vec<String>, Fail> {
-    let mut words = Vec::new(alloc);
-    for word in line.split(' ') {
-        if !word.is_empty() {
-            words.push(String::from_str(alloc, word)?)?;
-        }
-    }
-    Ok(words)
-}
-
-fn told(alloc: Global, job: Job<'_>) -> Result<String, Fail> {
-    match job {
-        Job::Archive(word) => Ok(format!(in alloc; "archive {word}")?),
-        Job::NoJob => Ok(String::from_str(alloc, "no job")?),
-        Job::Ijar { input, output } => Ok(format!(in alloc; "{input} to {output}")?),
-    }
-}
-
-/// Words, and their job.
-const ROWS: [(&str, &str); 34] = [
-    // the options in any order, each once, each with its value
-    ("ijar --input in --output out", "in to out"),
-    ("ijar --output out --input in", "in to out"),
-    ("ijar --input in --output in", "in to in"),
-    ("", "no job"),
-    ("ijar", "no job"),
-    ("ijar --input in", "no job"),
-    ("ijar --output out", "no job"),
-    ("ijar --input in --output", "no job"),
-    ("ijar --input --output out", "no job"),
-    ("ijar --input in --input in --output out", "no job"),
-    ("ijar --input in --output out --output other", "no job"),
-    ("ijar --input in --output out more", "no job"),
-    ("ijar in --output out", "no job"),
-    ("ijar --input in --output out --workers 2", "no job"),
-    ("ijar --Input in --output out", "no job"),
-    ("--input in --output out ijar", "no job"),
-    ("--input in --output out", "no job"),
-    ("IJAR --input in --output out", "no job"),
-    ("turbine --sources in --output out", "no job"),
-    ("ask --classes in --class A", "no job"),
-    // no short forms, no abbreviations, no words that end the options
-    ("ijar --input=in --output=out", "no job"),
-    ("ijar -- --input in --output out", "no job"),
-    ("ijar --input in -- --output out", "no job"),
-    ("ijar --inp in --output out", "no job"),
-    ("ijar --input -in --output out", "no job"),
-    ("ijar --input - --output out", "no job"),
+/// Words of the command `ijar`, with their input and output.
+const STRIPPED: &[(&str, &str, &str)] = &[
+    // the options in any order
+    ("ijar --input in --output out", "in", "out"),
+    ("ijar --output out --input in", "in", "out"),
+    ("ijar --input in --output in", "in", "in"),
     // slashes at the end go
-    ("ijar --input in/ --output out//", "in to out"),
-    ("ijar --input /in/a/ --output ./out", "/in/a to ./out"),
-    ("ijar --input / --output out", "no job"),
-    ("ijar --input in --output //", "no job"),
-    // the first archive, wherever it stands
-    ("ijar --input in --output a.jar b.zip", "archive a.jar"),
-    ("lib.jmod", "archive lib.jmod"),
-    ("a.jar/ .zip ijar", "archive .zip"),
-    ("ijar --input a.JAR --output out", "a.JAR to out"),
+    ("ijar --input in/ --output out//", "in", "out"),
+    ("ijar --input /in/a/ --output ./out", "/in/a", "./out"),
+    // not the ending of an archive
+    ("ijar --input a.JAR --output out", "a.JAR", "out"),
 ];
 
-#[test]
-fn finds_jobs(rt: HostRuntime) -> Result<(), Fail> {
-    for (line, want) in ROWS {
-        let words = words_of(rt.alloc(), line)?;
-        let got = told(rt.alloc(), job_of(&words))?;
-        assert!(rt; got.as_str() == want, "{line}");
-    }
-    Ok(())
+/// Words that are no job.
+const REFUSED: &[&str] = &[
+    // each option once, with its value
+    "",
+    "ijar",
+    "ijar --input in",
+    "ijar --output out",
+    "ijar --input in --output",
+    "ijar --input --output out",
+    "ijar --input in --input in --output out",
+    "ijar --input in --output out --output other",
+    "ijar --input in --output out more",
+    "ijar in --output out",
+    "ijar --input in --output out --workers 2",
+    "ijar --Input in --output out",
+    "--input in --output out ijar",
+    "--input in --output out",
+    "IJAR --input in --output out",
+    "turbine --sources in --output out",
+    "ask --classes in --class A",
+    // no short forms, no abbreviations, no words that end the options
+    "ijar --input=in --output=out",
+    "ijar -- --input in --output out",
+    "ijar --input in -- --output out",
+    "ijar --inp in --output out",
+    "ijar --input -in --output out",
+    "ijar --input - --output out",
+    // nothing but slashes
+    "ijar --input / --output out",
+    "ijar --input in --output //",
+];
+
+/// Words with an archive, wherever it stands: the first is told.
+const ARCHIVES: &[(&str, &str)] = &[
+    ("ijar --input in --output a.jar b.zip", "a.jar"),
+    ("lib.jmod", "lib.jmod"),
+    ("a.jar/ .zip ijar", ".zip"),
+];
+
+fn check(rt: &impl Abort, alloc: Global, line: &str, job: Job<'_>) {
+    let words = words(rt, alloc, line);
+    assert!(rt; job_of(&words) == job, "{line}");
 }
 
 #[test]
-fn an_empty_value_is_none(rt: HostRuntime) -> Result<(), Fail> {
-    let mut words = words_of(rt.alloc(), "ijar --output out --input")?;
-    words.push(String::new(rt.alloc()))?;
+fn finds_jobs(rt: HostRuntime) {
+    for &(line, input, output) in STRIPPED {
+        check(&rt, rt.alloc(), line, Job::Ijar { input, output });
+    }
+}
+
+#[test]
+fn refuses_words_that_are_no_job(rt: HostRuntime) {
+    for line in REFUSED {
+        check(&rt, rt.alloc(), line, Job::NoJob);
+    }
+}
+
+#[test]
+fn tells_the_first_archive(rt: HostRuntime) {
+    for &(line, archive) in ARCHIVES {
+        check(&rt, rt.alloc(), line, Job::Archive(archive));
+    }
+}
+
+#[test]
+fn an_empty_value_is_none(rt: HostRuntime) {
+    let mut words = words(&rt, rt.alloc(), "ijar --output out --input");
+    words.push(String::new(rt.alloc())).expect(&rt, "memory");
     assert!(rt; job_of(&words) == Job::NoJob);
-    Ok(())
 }

@@ -1,11 +1,10 @@
 //! Words and files, and what comes of them.
-ghost use Rattle.std.specs.Prelude.{◌≢◌, IfOk};
+ghost use Rattle.std.specs.Prelude.{◌≢◌};
 
 use hdr_core::{HeldFile, MemFiles, MemOuts, MemSink, NoGate, SureFiles, SureOuts, SureSink};
 use jheader::{Status, run};
 use std::alloc::Global;
 use std::process::Abort;
-use std::test::Fail;
 use std::thread::Threads;
 
 /// The public class A of the superclass java/lang/Object, its texts behind the classes that name them.
@@ -38,21 +37,23 @@ const MEMBERS_STRIPPED: &[u8] = b"\xca\xfe\xba\xbe\0\0\0\x3d\0\x07\
 /// The words of a job.
 const JOB: &[&str] = &["ijar", "--input", "in", "--output", "out"];
 
-fn words_of(alloc: Global, row: &[&str]) -> Result<Vec<String>, Fail> {
+fn words_of(rt: &impl Abort, alloc: Global, row: &[&str]) -> Vec<String> {
     let mut words = Vec::new(alloc);
     for word in row {
-        words.push(String::from_str(alloc, word)?)?;
+        let word = String::from_str(alloc, word).expect(rt, "memory");
+        words.push(word).expect(rt, "memory");
     }
-    Ok(words)
+    words
 }
 
-fn one_file(alloc: Global, path: &str, bytes: &[u8]) -> Result<Vec<HeldFile>, Fail> {
+fn one_file(rt: &impl Abort, alloc: Global, path: &str, bytes: &[u8]) -> Vec<HeldFile> {
+    let file = HeldFile {
+        path: String::from_str(alloc, path).expect(rt, "memory"),
+        bytes: Vec::from_slice(alloc, bytes).expect(rt, "memory"),
+    };
     let mut files = Vec::new(alloc);
-    files.push(HeldFile {
-        path: String::from_str(alloc, path)?,
-        bytes: Vec::from_slice(alloc, bytes)?,
-    })?;
-    Ok(files)
+    files.push(file).expect(rt, "memory");
+    files
 }
 
 /// What came of a run over objects that never fail.
@@ -78,15 +79,15 @@ fn run_sure<R: Threads + Sync>(rt: &R, alloc: Global, words: &[String], files: V
 }
 
 /// Runs these words on one file.
-fn run_on<R: Threads + Sync>(
+fn run_on<R: Abort + Threads + Sync>(
     rt: &R,
     alloc: Global,
     words: &[&str],
     path: &str,
     bytes: &[u8],
-) -> Result<Ran, Fail> {
-    let words = words_of(alloc, words)?;
-    Ok(run_sure(rt, alloc, &words, one_file(alloc, path, bytes)?))
+) -> Ran {
+    let words = words_of(rt, alloc, words);
+    run_sure(rt, alloc, &words, one_file(rt, alloc, path, bytes))
 }
 
 /// The one file that was written is out/A.class of these bytes, and nothing was told.
@@ -108,21 +109,20 @@ fn check_told<R: Abort>(rt: &R, ran: &Ran, status: Status, told: &str) {
 }
 
 #[test]
-fn strips_class_files(rt: HostRuntime) -> Result<(), Fail> {
+fn strips_class_files(rt: HostRuntime) {
     let rows = [
         (PLAIN, PLAIN_STRIPPED),
         (PLAIN_STRIPPED, PLAIN_STRIPPED),
         (MEMBERS, MEMBERS_STRIPPED),
     ];
     for (bytes, stripped) in rows {
-        let ran = run_on(&rt, rt.alloc(), JOB, "in/A.class", bytes)?;
+        let ran = run_on(&rt, rt.alloc(), JOB, "in/A.class", bytes);
         check_done(&rt, &ran, stripped);
     }
-    Ok(())
 }
 
 #[test]
-fn tells_words_that_are_no_job(rt: HostRuntime) -> Result<(), Fail> {
+fn tells_words_that_are_no_job(rt: HostRuntime) {
     let usage = "usage: jheader turbine|ijar|ask options\n";
     let rows: [(&[&str], &str); 3] = [
         (&[], usage),
@@ -133,16 +133,15 @@ fn tells_words_that_are_no_job(rt: HostRuntime) -> Result<(), Fail> {
         ),
     ];
     for (words, told) in rows {
-        let ran = run_on(&rt, rt.alloc(), words, "in/A.class", PLAIN)?;
+        let ran = run_on(&rt, rt.alloc(), words, "in/A.class", PLAIN);
         check_told(&rt, &ran, Status::Usage, told);
     }
-    Ok(())
 }
 
 #[test]
-fn tells_files_that_are_no_plain_class(rt: HostRuntime) -> Result<(), Fail> {
+fn tells_files_that_are_no_plain_class(rt: HostRuntime) {
     for length in [0, 1, 2, 3, 4, 5, 30, 40, 52] {
-        let ran = run_on(&rt, rt.alloc(), JOB, "in/A.class", &PLAIN[..length])?;
+        let ran = run_on(&rt, rt.alloc(), JOB, "in/A.class", &PLAIN[..length]);
         check_told(
             &rt,
             &ran,
@@ -150,11 +149,10 @@ fn tells_files_that_are_no_plain_class(rt: HostRuntime) -> Result<(), Fail> {
             "in/A.class:0: F0 not read in this stage\n",
         );
     }
-    Ok(())
 }
 
 #[test]
-fn tells_inputs_of_other_than_one_class(rt: HostRuntime) -> Result<(), Fail> {
+fn tells_inputs_of_other_than_one_class(rt: HostRuntime) {
     let paths = [
         "in/A.java",
         "in/META-INF/A.class",
@@ -162,7 +160,7 @@ fn tells_inputs_of_other_than_one_class(rt: HostRuntime) -> Result<(), Fail> {
         "in.class",
     ];
     for path in paths {
-        let ran = run_on(&rt, rt.alloc(), JOB, path, PLAIN)?;
+        let ran = run_on(&rt, rt.alloc(), JOB, path, PLAIN);
         check_told(
             &rt,
             &ran,
@@ -170,12 +168,11 @@ fn tells_inputs_of_other_than_one_class(rt: HostRuntime) -> Result<(), Fail> {
             "in:0: F0 not read in this stage\n",
         );
     }
-    Ok(())
 }
 
 /// A class with zeros behind it is no class, up to the length at which it isn't read any more.
 #[test]
-fn tells_files_that_are_too_long(rt: HostRuntime) -> Result<(), Fail> {
+fn tells_files_that_are_too_long(rt: HostRuntime) {
     let rows = [
         (PLAIN.len() + 1, "in/A.class:0: F0 not read in this stage\n"),
         (16_777_216, "in/A.class:0: F0 not read in this stage\n"),
@@ -185,35 +182,77 @@ fn tells_files_that_are_too_long(rt: HostRuntime) -> Result<(), Fail> {
         ),
     ];
     for (length, told) in rows {
-        let mut bytes = Vec::from_slice(rt.alloc(), PLAIN)?;
-        bytes.resize(length, 0)?;
-        let ran = run_on(&rt, rt.alloc(), JOB, "in/A.class", &bytes)?;
+        let mut bytes = Vec::from_slice(rt.alloc(), PLAIN).expect(&rt, "memory");
+        bytes.resize(length, 0).expect(&rt, "memory");
+        let ran = run_on(&rt, rt.alloc(), JOB, "in/A.class", &bytes);
         check_told(&rt, &ran, Status::Diagnosed, told);
     }
-    Ok(())
 }
 
 /// The calls that fail, and what comes of it.
 #[derive(Drop)]
-struct Fault<'a> {
-    files: &'a [u32],
-    outs: &'a [u32],
-    err: &'a [u32],
+struct Fault {
+    files: &'static [u32],
+    outs: &'static [u32],
+    err: &'static [u32],
     status: Status,
-    told: &'a str,
+    told: &'static str,
 }
 
-fn check_fault<R: Abort + Threads + Sync>(
-    rt: &R,
-    alloc: Global,
-    fault: &Fault<'_>,
-) -> Result<(), Fail> {
-    let words = words_of(alloc, JOB)?;
-    let held = one_file(alloc, "in/A.class", PLAIN)?;
-    let mut files = MemFiles::of(held, Vec::from_slice(alloc, fault.files)?);
-    let mut outs = MemOuts::of(alloc, Vec::from_slice(alloc, fault.outs)?);
+const FAULTS: &[Fault] = &[
+    // No call of a job that is done.
+    Fault {
+        files: &[2],
+        outs: &[1],
+        err: &[0],
+        status: Status::Done,
+        told: "",
+    },
+    // Listing.
+    Fault {
+        files: &[0],
+        outs: &[0],
+        err: &[],
+        status: Status::ReadFault,
+        told: "read fault: in\n",
+    },
+    // Reading.
+    Fault {
+        files: &[1],
+        outs: &[],
+        err: &[],
+        status: Status::ReadFault,
+        told: "read fault: in/A.class\n",
+    },
+    // Reading, and then telling of it.
+    Fault {
+        files: &[1],
+        outs: &[],
+        err: &[1],
+        status: Status::ReadFault,
+        told: "read fa",
+    },
+    // Putting.
+    Fault {
+        files: &[],
+        outs: &[0],
+        err: &[],
+        status: Status::WriteFault,
+        told: "",
+    },
+];
+
+fn calls(rt: &impl Abort, alloc: Global, numbers: &[u32]) -> Vec<u32> {
+    Vec::from_slice(alloc, numbers).expect(rt, "memory")
+}
+
+fn check_fault<R: Abort + Threads + Sync>(rt: &R, alloc: Global, fault: &Fault) {
+    let words = words_of(rt, alloc, JOB);
+    let held = one_file(rt, alloc, "in/A.class", PLAIN);
+    let mut files = MemFiles::of(held, calls(rt, alloc, fault.files));
+    let mut outs = MemOuts::of(alloc, calls(rt, alloc, fault.outs));
     let mut out = MemSink::of(alloc, 7, Vec::new(alloc));
-    let mut err = MemSink::of(alloc, 7, Vec::from_slice(alloc, fault.err)?);
+    let mut err = MemSink::of(alloc, 7, calls(rt, alloc, fault.err));
     let status = run(
         rt, alloc, &words, &mut files, &mut outs, &mut out, &mut err, &NoGate,
     );
@@ -221,48 +260,11 @@ fn check_fault<R: Abort + Threads + Sync>(
     assert!(rt; err.told() == fault.told.as_bytes());
     let written = if fault.status == Status::Done { 1 } else { 0 };
     assert!(rt; outs.written().len() == written);
-    Ok(())
 }
 
 #[test]
-fn answers_faults(rt: HostRuntime) -> Result<(), Fail> {
-    let done = Fault {
-        files: &[2],
-        outs: &[1],
-        err: &[0],
-        status: Status::Done,
-        told: "",
-    };
-    let listing = Fault {
-        files: &[0],
-        outs: &[0],
-        err: &[],
-        status: Status::ReadFault,
-        told: "read fault: in\n",
-    };
-    let reading = Fault {
-        files: &[1],
-        outs: &[],
-        err: &[],
-        status: Status::ReadFault,
-        told: "read fault: in/A.class\n",
-    };
-    let telling = Fault {
-        files: &[1],
-        outs: &[],
-        err: &[1],
-        status: Status::ReadFault,
-        told: "read fa",
-    };
-    let putting = Fault {
-        files: &[],
-        outs: &[0],
-        err: &[],
-        status: Status::WriteFault,
-        told: "",
-    };
-    for fault in &[done, listing, reading, telling, putting] {
-        check_fault(&rt, rt.alloc(), fault)?;
+fn answers_faults(rt: HostRuntime) {
+    for fault in FAULTS {
+        check_fault(&rt, rt.alloc(), fault);
     }
-    Ok(())
 }
