@@ -1,6 +1,6 @@
 //! The tokens of many texts, fed whole and byte by byte.
 
-use crate::rows::{
+use crate::texts::{
     BLOCKS_AND_OPERATORS, EXAMPLES, MORE, NUMBERS, QUOTATIONS, Row, WORDS_AND_SPACES,
 };
 use java_lexer::{LexErr, LexLit, Lexer, Token, TokenKind};

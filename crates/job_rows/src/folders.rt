@@ -8,7 +8,7 @@ use std::{env, fs, io, process, rt};
 fn make_folder(rt: &HostRuntime) -> io::Result<String> {
     let above = env::temp_dir(rt)?;
     let number = process::id(rt.process());
-    let folder = format!(in rt.alloc(); "{}/base_rows_{}", above.as_str(), number)?;
+    let folder = format!(in rt.alloc(); "{}/job_rows_{}", above.as_str(), number)?;
     fs::create_dir(rt, folder.as_str())?;
     Ok(folder)
 }

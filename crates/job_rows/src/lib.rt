@@ -1,4 +1,4 @@
-//! Examples of words, of paths and of calls to the outside: the tests of hdr_core and jobs, in a crate of their own, so that the proofs of those are checked once.
+//! Examples of words, of paths, of calls to the outside and of runs: the tests of hdr_core, jobs and jheader, in a crate of their own, so that the proofs of those are checked once.
 #![tactic(auto)]
 
 #[cfg(test)]
@@ -15,6 +15,8 @@ mod in_memory;
 mod odd_folder;
 #[cfg(test)]
 mod paths;
+#[cfg(test)]
+mod runs;
 #[cfg(test)]
 mod stream;
 #[cfg(test)]
