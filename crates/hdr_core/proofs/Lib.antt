@@ -1,2 +1,5 @@
 pub mod Grown
 pub mod Listing
+pub mod Pieces
+pub mod Sorting
+pub mod Stacks

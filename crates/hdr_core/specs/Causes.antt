@@ -1,9 +1,17 @@
 -- What a call to the outside world did to the count of faults, and to what is told there.
-use Rattle.std.specs.Prelude.{◌≡◌, ℕ, ◌+◌, ◌-◌, ◌^◌, ◌≤◌, min, List, ◌++◌, Option, Some, None}
+use Rattle.std.specs.Prelude.{◌≡◌, ◌≢◌, ℕ, ◌+◌, ◌-◌, ◌^◌, ◌≤◌, min, List, ◌++◌, Option, Some, None, Result, Err, IsErrOf}
 
 -- A count of 64 bits rose. It stands still at its end.
 abbrev pub Rose : ℕ → ℕ → Type 0
 Rose before after = min (before + 1) (2 ^ 64 - 1) ≤ after
+
+-- The object's count of faults rose where the call answered this refusal, and after any other
+-- answer it is what it was.
+pub record CountsFault {S T E : Type 0} (faults : S → ℕ) (before after : S)
+    (result : Result T E) (refusal : E) : Type 0 where
+  pub failed : IsErrOf result refusal → Rose (faults before) (faults after)
+  pub kept : result ≢ Err refusal → faults after ≡ faults before
+  pub later : faults before ≤ faults after
 
 -- what is told, with more bytes at its end, where it is told
 abbrev pub grown : Option (List ℕ) → List ℕ → Option (List ℕ)

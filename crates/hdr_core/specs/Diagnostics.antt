@@ -1,24 +1,18 @@
--- The text of diagnostics: path, ':', line, ': ', code, a blank, the code's text, and behind ': ' a name where there is one.
+-- The order of diagnostics, and their text: path, ':', line, ': ', code, a blank, the code's text, and behind ': ' a name where there is one.
 use Rattle.std.specs.Prelude.{ℕ, List, [], ◌∷◌, ◌++◌, flat_map, codes, decimal}
-use Rattle.hdr_core.specs.declared.code.Code.{Code}
-use Rattle.hdr_core.specs.declared.code.Code.TheVariants.{L1, F0, L4, L5, L9}
+use Rattle.std.specs.declared.cmp.Ordering.{Ordering}
+use Rattle.std.specs.Ordering.{nat_cmp, on, then_cmp}
+use Rattle.std.specs.Cmp.Lexicographic.{slice_cmp}
+use Rattle.hdr_core.specs.Codes.{code_order, code_name, code_text}
 use Rattle.hdr_core.specs.declared.diagnostics.Diag.{Diag}
 
--- the code as it is printed
-abbrev pub code_name : Code → List ℕ
-code_name L1 = codes "L1"
-code_name F0 = codes "F0"
-code_name L4 = codes "L4"
-code_name L5 = codes "L5"
-code_name L9 = codes "L9"
-
--- what the code says
-abbrev pub code_text : Code → List ℕ
-code_text L1 = codes "file is longer than 16777216 bytes"
-code_text F0 = codes "not read in this stage"
-code_text L4 = codes "constant pool is full"
-code_text L5 = codes "text is too long"
-code_text L9 = codes "list is too long"
+-- by the file's number, the line, the code's place in the table, the name, and last the path
+abbrev pub diag_order : Diag → Diag → Ordering
+diag_order =
+    then_cmp (on (λ diag. diag.file) nat_cmp)
+    (then_cmp (on (λ diag. diag.line) nat_cmp)
+    (then_cmp (on (λ diag. diag.code) code_order)
+    (then_cmp (on (λ diag. diag.name) (slice_cmp nat_cmp)) (on (λ diag. diag.path) (slice_cmp nat_cmp)))))
 
 -- a name behind its mark, and nothing where the name is empty
 abbrev pub named : List ℕ → List ℕ

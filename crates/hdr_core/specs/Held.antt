@@ -1,5 +1,5 @@
 -- What files hold, and what was written, as lists of a path and bytes.
-use Rattle.std.specs.Prelude.{◌≡◌, ℕ, ◌&&◌, ◌==◌, Bool, true, List, [], ◌∷◌, ◌++◌, length, drop, nat_eq, bytes_eq, Option, Some, None, IsSome, Contains, if◌then◌else◌}
+use Rattle.std.specs.Prelude.{◌≡◌, ℕ, ◌&&◌, ◌==◌, Bool, true, List, [], ◌∷◌, ◌++◌, length, ◌≤◌, ◌<◌, drop, nat_eq, bytes_eq, Option, Some, None, IsSome, IfSome, Contains, if◌then◌else◌}
 use Rattle.std.specs.List.{starts_with, IsDistinct}
 
 -- the bytes that are held at a path: those of its first entry
@@ -22,6 +22,28 @@ pub record IsListing (held : List (List ℕ × List ℕ)) (root : List ℕ) (pat
   pub are_under : (path : List ℕ) → Contains paths path → is_under root path ≡ true
   pub all : (path : List ℕ) → IsSome (held_at held path) → is_under root path ≡ true → Contains paths path
   pub once : IsDistinct bytes_eq paths
+
+-- where the files are told, the paths are a listing of the root
+abbrev pub ListsWhereTold : Option (List (List ℕ × List ℕ)) → List ℕ → List (List ℕ) → Type 0
+ListsWhereTold held root paths = IfSome held (λ files. IsListing files root paths)
+
+-- where the files are told, one of them is of this path
+abbrev pub HoldsPath : Option (List (List ℕ × List ℕ)) → List ℕ → Type 0
+HoldsPath held path = IfSome held (λ files. IsSome (held_at files path))
+
+-- where the files are told, that of this path has these bytes
+abbrev pub HoldsBytes : Option (List (List ℕ × List ℕ)) → List ℕ → List ℕ → Type 0
+HoldsBytes held path bytes = IfSome held (λ files. held_at files path ≡ Some bytes)
+
+-- where the files are told, that of this path has at most so many bytes
+abbrev pub HoldsWithin : Option (List (List ℕ × List ℕ)) → List ℕ → ℕ → Type 0
+HoldsWithin held path most =
+    IfSome held (λ files. IfSome (held_at files path) (λ bytes. length bytes ≤ most))
+
+-- where the files are told, that of this path has more bytes
+abbrev pub HoldsBeyond : Option (List (List ℕ × List ℕ)) → List ℕ → ℕ → Type 0
+HoldsBeyond held path most =
+    IfSome held (λ files. IfSome (held_at files path) (λ bytes. most < length bytes))
 
 -- the written files, with one more at their end, where they are told
 abbrev pub with_file : Option (List (List ℕ × List ℕ)) → List ℕ → List ℕ → Option (List (List ℕ × List ℕ))

@@ -1,25 +1,40 @@
-ghost use Rattle.std.specs.Prelude.{◌≡◌, ◌≢◌, ◌≤◌, ◌++◌, Err, OnOk, OnErr, IsErrOf};
-ghost use Rattle.hdr_core.specs.Causes.{Rose, grown, GrewByFront};
-ghost use Rattle.hdr_core.specs.Diagnostics.{named, line_of, printed};
+ghost use Rattle.std.specs.Prelude.{◌≡◌, ◌++◌, List, IfOk, OnOk, OnErr};
+ghost use Rattle.hdr_core.specs.Causes.{CountsFault, grown, GrewByFront};
+ghost use Rattle.hdr_core.specs.Diagnostics.{diag_order, named, line_of, printed};
+ghost use Rattle.hdr_core.specs.Sorted.{Sorts};
 
 use crate::code::Code;
 use crate::errors::CallErr;
+use crate::memory::Memory;
 use crate::sink::{Sink, write_whole};
 use crate::text::Text;
 use itoa::Buffer;
 use std::alloc::{AllocError, Global};
 
 /// What is wrong at a place of a file.
-#[derive(Debug, Drop, PartialEq, Eq)]
+///
+/// Diagnostics are ordered by their fields, the first field first.
+#[derive(Debug, Drop, PartialEq, Eq, PartialOrd, Ord)]
 pub struct Diag {
     /// The file's number in the order in which files are used.
     pub file: u32,
-    pub path: Text,
     /// The line, or the byte offset in a class file.
     pub line: u32,
     pub code: Code,
     /// Whom it is about. Empty where the code names no one.
     pub name: Text,
+    pub path: Text,
+}
+
+/// Sorts diagnostics by file, line, code, name and path, and keeps equal ones once.
+pub fn sort_diags(alloc: Global, mut list: Vec<Diag>) -> Result<Vec<Diag>, Memory>
+    ensures sorted { IfOk result (λ sorted. Sorts diag_order list.items sorted.items) }
+    ensures sole { IfOk result (λ sorted.
+        (other : List Diag) → Sorts diag_order list.items other → other ≡ sorted.items) }
+{
+    list.as_mut_slice().sort(alloc)?;
+    list.dedup();
+    Ok(list)
 }
 
 // Puts the diagnostic's line behind what is there.
@@ -52,11 +67,9 @@ fn append_name(name: &[u8], text: &mut Vec<u8>) -> Result<(), AllocError>
 #[tactic(auto, using(crate::proofs::Grown::grew_nothing))]
 fn print_diag<S: Sink>(diag: &Diag, line: &mut Vec<u8>, sink: &mut S) -> Result<(), CallErr>
     ensures ok { OnOk result (S.told sink.new ≡ grown (S.told sink.old) (line_of diag.now)) }
-    ensures err { OnErr result (GrewByFront (S.told sink.old) (S.told sink.new) (line_of diag.now)) }
-
-    ensures failed { IsErrOf result CallErr.Failed → Rose (S.faults sink.old) (S.faults sink.new) }
-    ensures kept { result ≢ Err CallErr.Failed → S.faults sink.new ≡ S.faults sink.old }
-    ensures later { S.faults sink.old ≤ S.faults sink.new }
+    ensures err { OnErr result
+        (GrewByFront (S.told sink.old) (S.told sink.new) (line_of diag.now)) }
+    ensures faults { CountsFault S.faults sink.old sink.new result CallErr.Failed }
 {
     line.clear();
     append_line(diag, line)?;
@@ -68,11 +81,9 @@ fn print_diag<S: Sink>(diag: &Diag, line: &mut Vec<u8>, sink: &mut S) -> Result<
 /// After a refusal the sink was told a front of that text.
 pub fn print_diags<S: Sink>(alloc: Global, list: &[Diag], sink: &mut S) -> Result<(), CallErr>
     ensures ok { OnOk result (S.told sink.new ≡ grown (S.told sink.old) (printed list.now)) }
-    ensures err { OnErr result (GrewByFront (S.told sink.old) (S.told sink.new) (printed list.now)) }
-
-    ensures failed { IsErrOf result CallErr.Failed → Rose (S.faults sink.old) (S.faults sink.new) }
-    ensures kept { result ≢ Err CallErr.Failed → S.faults sink.new ≡ S.faults sink.old }
-    ensures later { S.faults sink.old ≤ S.faults sink.new }
+    ensures err { OnErr result
+        (GrewByFront (S.told sink.old) (S.told sink.new) (printed list.now)) }
+    ensures faults { CountsFault S.faults sink.old sink.new result CallErr.Failed }
 {
     let mut line = Vec::new(alloc);
     for diag in list {

@@ -1,9 +1,9 @@
 //! Objects in memory that fail at listed calls. Calls are counted from 0.
-ghost use Rattle.std.specs.Prelude.{◌≡◌, ◌≢◌, ◌≤◌, ◌<◌, ◌^◌, ◌↔◌, [], Some, Err, min, take, length, map, string_bytes, IfOk, IfSome, IsSome, IsErrOf, OnOk, OnErr};
-ghost use Rattle.hdr_core.specs.Calls.{calls_made, failing_calls, calls_failed, FailsNext, CountsCall};
-ghost use Rattle.hdr_core.specs.Causes.{Rose, grown};
-ghost use Rattle.hdr_core.specs.Held.{held_at, IsListing, with_file};
-ghost use Rattle.hdr_core.specs.InMemory.{held_files};
+ghost use Rattle.std.specs.Prelude.{◌≡◌, ◌≤◌, ◌<◌, ◌^◌, ◌↔◌, [], Some, Err, min, take, length, map, string_bytes, IfOk, IsErrOf, OnOk, OnErr};
+ghost use Rattle.hdr_core.specs.Calls.{calls_made, failing_calls, FailsNext, CountsCall};
+ghost use Rattle.hdr_core.specs.Causes.{CountsFault, grown};
+ghost use Rattle.hdr_core.specs.Held.{ListsWhereTold, HoldsPath, HoldsBytes, HoldsWithin, HoldsBeyond, with_file};
+ghost use Rattle.hdr_core.specs.InMemory.{held_files, files_held, files_calls, files_faults, outs_written, outs_calls, outs_faults};
 
 use crate::calls::Calls;
 use crate::errors::{CallErr, FileErr};
@@ -18,7 +18,7 @@ use std::alloc::Global;
 /// A path that stands twice is held with the bytes of its first file. Each reading goes over the files.
 #[derive(Drop)]
 pub struct MemFiles {
-    pub calls: Calls,
+    calls: Calls,
     files: Vec<HeldFile>,
 }
 
@@ -27,31 +27,37 @@ impl MemFiles {
     pub fn of(files: Vec<HeldFile>, failing: Vec<u32>) -> MemFiles
         ensures held { ⟦<MemFiles as Files>⟧.held result ≡ Some (held_files files.items) }
         ensures faults { ⟦<MemFiles as Files>⟧.faults result ≡ 0 }
-        ensures made { calls_made result.calls ≡ 0 }
-        ensures failing { failing_calls result.calls ≡ failing.items }
+        ensures made { calls_made (files_calls result) ≡ 0 }
+        ensures failing { failing_calls (files_calls result) ≡ failing.items }
     {
         MemFiles {
             calls: Calls::of(failing),
             files,
         }
     }
+
+    /// The calls that were made so far.
+    pub fn calls(&self) -> &Calls
+        ensures { result.now ≡ files_calls self.now }
+    {
+        &self.calls
+    }
 }
 
 impl Files for MemFiles {
-    ghost held = { λ files. Some (held_files files.files.items) };
+    ghost held = { files_held };
 
-    ghost faults = { λ files. calls_failed files.calls };
+    ghost faults = { files_faults };
 
     fn list(&mut self, alloc: Global, root: &str) -> Result<Vec<String>, CallErr>
-        ensures fails { (result ≡ Err CallErr.Failed) ↔ FailsNext self.old.calls }
-        ensures counted { CountsCall self.old.calls self.new.calls }
+        ensures fails { (result ≡ Err CallErr.Failed) ↔ FailsNext (files_calls self.old) }
+        ensures counted { CountsCall (files_calls self.old) (files_calls self.new) }
 
-        ensures paths { IfOk result (λ paths. IfSome (⟦<MemFiles as Files>⟧.held self.old) (λ files. IsListing files root.now (map string_bytes paths.items))) }
-        ensures held { ⟦<MemFiles as Files>⟧.held self.new ≡ ⟦<MemFiles as Files>⟧.held self.old }
-        ensures failed { IsErrOf result CallErr.Failed → Rose (⟦<MemFiles as Files>⟧.faults self.old) (⟦<MemFiles as Files>⟧.faults self.new) }
-        ensures kept { result ≢ Err CallErr.Failed → ⟦<MemFiles as Files>⟧.faults self.new ≡ ⟦<MemFiles as Files>⟧.faults self.old }
-        ensures later { ⟦<MemFiles as Files>⟧.faults self.old ≤ ⟦<MemFiles as Files>⟧.faults self.new }
-        ensures bounded { ⟦<MemFiles as Files>⟧.faults self.new < 2 ^ 64 }
+        ensures paths { IfOk result (λ paths.
+            ListsWhereTold (files_held self.old) root.now (map string_bytes paths.items)) }
+        ensures held { files_held self.new ≡ files_held self.old }
+        ensures faults { CountsFault files_faults self.old self.new result CallErr.Failed }
+        ensures bounded { files_faults self.new < 2 ^ 64 }
     {
         if self.calls.fails_next() {
             return Err(CallErr::Failed);
@@ -60,18 +66,17 @@ impl Files for MemFiles {
     }
 
     fn read(&mut self, path: &str, into: &mut Vec<u8>) -> Result<(), FileErr>
-        requires { IfSome (⟦<MemFiles as Files>⟧.held self.old) (λ files. IsSome (held_at files path.now)) }
-        ensures fails { (result ≡ Err FileErr.Failed) ↔ FailsNext self.old.calls }
-        ensures counted { CountsCall self.old.calls self.new.calls }
+        requires { HoldsPath (files_held self.old) path.now }
+        ensures fails { (result ≡ Err FileErr.Failed) ↔ FailsNext (files_calls self.old) }
+        ensures counted { CountsCall (files_calls self.old) (files_calls self.new) }
 
-        ensures bytes { OnOk result (IfSome (⟦<MemFiles as Files>⟧.held self.old) (λ files. held_at files path.now ≡ Some into.new.items)) }
+        ensures bytes { OnOk result (HoldsBytes (files_held self.old) path.now into.new.items) }
         ensures fits { OnOk result (length into.new.items ≤ LONGEST_FILE) }
-        ensures too_long { IsErrOf result FileErr.TooLong → IfSome (⟦<MemFiles as Files>⟧.held self.old) (λ files. IfSome (held_at files path.now) (λ bytes. LONGEST_FILE < length bytes)) }
-        ensures held { ⟦<MemFiles as Files>⟧.held self.new ≡ ⟦<MemFiles as Files>⟧.held self.old }
-        ensures failed { IsErrOf result FileErr.Failed → Rose (⟦<MemFiles as Files>⟧.faults self.old) (⟦<MemFiles as Files>⟧.faults self.new) }
-        ensures kept { result ≢ Err FileErr.Failed → ⟦<MemFiles as Files>⟧.faults self.new ≡ ⟦<MemFiles as Files>⟧.faults self.old }
-        ensures later { ⟦<MemFiles as Files>⟧.faults self.old ≤ ⟦<MemFiles as Files>⟧.faults self.new }
-        ensures bounded { ⟦<MemFiles as Files>⟧.faults self.new < 2 ^ 64 }
+        ensures too_long { IsErrOf result FileErr.TooLong →
+            HoldsBeyond (files_held self.old) path.now LONGEST_FILE }
+        ensures held { files_held self.new ≡ files_held self.old }
+        ensures faults { CountsFault files_faults self.old self.new result FileErr.Failed }
+        ensures bounded { files_faults self.new < 2 ^ 64 }
     {
         if self.calls.fails_next() {
             return Err(FileErr::Failed);
@@ -83,7 +88,7 @@ impl Files for MemFiles {
 /// Takes written files into memory.
 #[derive(Drop)]
 pub struct MemOuts {
-    pub calls: Calls,
+    calls: Calls,
     alloc: Global,
     written: Vec<HeldFile>,
 }
@@ -93,14 +98,21 @@ impl MemOuts {
     pub fn of(alloc: Global, failing: Vec<u32>) -> MemOuts
         ensures written { ⟦<MemOuts as Outs>⟧.written result ≡ Some [] }
         ensures faults { ⟦<MemOuts as Outs>⟧.faults result ≡ 0 }
-        ensures made { calls_made result.calls ≡ 0 }
-        ensures failing { failing_calls result.calls ≡ failing.items }
+        ensures made { calls_made (outs_calls result) ≡ 0 }
+        ensures failing { failing_calls (outs_calls result) ≡ failing.items }
     {
         MemOuts {
             calls: Calls::of(failing),
             alloc,
             written: Vec::new(alloc),
         }
+    }
+
+    /// The calls that were made so far.
+    pub fn calls(&self) -> &Calls
+        ensures { result.now ≡ outs_calls self.now }
+    {
+        &self.calls
     }
 
     /// What was written, in the order of the calls.
@@ -112,20 +124,19 @@ impl MemOuts {
 }
 
 impl Outs for MemOuts {
-    ghost written = { λ outs. Some (held_files outs.written.items) };
+    ghost written = { outs_written };
 
-    ghost faults = { λ outs. calls_failed outs.calls };
+    ghost faults = { outs_faults };
 
     fn put(&mut self, path: &str, bytes: &[u8]) -> Result<(), CallErr>
-        ensures fails { (result ≡ Err CallErr.Failed) ↔ FailsNext self.old.calls }
-        ensures counted { CountsCall self.old.calls self.new.calls }
+        ensures fails { (result ≡ Err CallErr.Failed) ↔ FailsNext (outs_calls self.old) }
+        ensures counted { CountsCall (outs_calls self.old) (outs_calls self.new) }
 
-        ensures ok { OnOk result (⟦<MemOuts as Outs>⟧.written self.new ≡ with_file (⟦<MemOuts as Outs>⟧.written self.old) path.now bytes.now) }
-        ensures err { OnErr result (⟦<MemOuts as Outs>⟧.written self.new ≡ ⟦<MemOuts as Outs>⟧.written self.old) }
-        ensures failed { IsErrOf result CallErr.Failed → Rose (⟦<MemOuts as Outs>⟧.faults self.old) (⟦<MemOuts as Outs>⟧.faults self.new) }
-        ensures kept { result ≢ Err CallErr.Failed → ⟦<MemOuts as Outs>⟧.faults self.new ≡ ⟦<MemOuts as Outs>⟧.faults self.old }
-        ensures later { ⟦<MemOuts as Outs>⟧.faults self.old ≤ ⟦<MemOuts as Outs>⟧.faults self.new }
-        ensures bounded { ⟦<MemOuts as Outs>⟧.faults self.new < 2 ^ 64 }
+        ensures ok { OnOk result
+            (outs_written self.new ≡ with_file (outs_written self.old) path.now bytes.now) }
+        ensures err { OnErr result (outs_written self.new ≡ outs_written self.old) }
+        ensures faults { CountsFault outs_faults self.old self.new result CallErr.Failed }
+        ensures bounded { outs_faults self.new < 2 ^ 64 }
     {
         if self.calls.fails_next() {
             return Err(CallErr::Failed);
@@ -137,14 +148,14 @@ impl Outs for MemOuts {
 /// A sink in memory. A write takes `step` bytes of a piece, or the whole piece where that is shorter.
 #[derive(Drop)]
 pub struct MemSink {
-    pub calls: Calls,
+    calls: Calls,
     told: Vec<u8>,
     step: u32,
     ghost takes_some: { 0 < step },
 }
 
 impl MemSink {
-    ghost use Rattle.hdr_core.specs.SinkStep.{sink_step};
+    ghost use Rattle.hdr_core.specs.InSink.{sink_step, sink_calls};
 
     /// Takes no memory.
     pub fn of(alloc: Global, step: u32, failing: Vec<u32>) -> MemSink
@@ -152,14 +163,21 @@ impl MemSink {
         ensures told { ⟦<MemSink as Sink>⟧.told result ≡ Some [] }
         ensures faults { ⟦<MemSink as Sink>⟧.faults result ≡ 0 }
         ensures step { sink_step result ≡ step }
-        ensures made { calls_made result.calls ≡ 0 }
-        ensures failing { failing_calls result.calls ≡ failing.items }
+        ensures made { calls_made (sink_calls result) ≡ 0 }
+        ensures failing { failing_calls (sink_calls result) ≡ failing.items }
     {
         MemSink {
             calls: Calls::of(failing),
             told: Vec::new(alloc),
             step,
         }
+    }
+
+    /// The calls that were made so far.
+    pub fn calls(&self) -> &Calls
+        ensures { result.now ≡ sink_calls self.now }
+    {
+        &self.calls
     }
 
     /// What it was told.
@@ -171,25 +189,24 @@ impl MemSink {
 }
 
 impl Sink for MemSink {
-    ghost use Rattle.hdr_core.specs.SinkStep.{sink_step};
+    ghost use Rattle.hdr_core.specs.InSink.{sink_told, sink_step, sink_calls, sink_faults};
 
-    ghost told = { λ sink. Some sink.told.items };
+    ghost told = { sink_told };
 
-    ghost faults = { λ sink. calls_failed sink.calls };
+    ghost faults = { sink_faults };
 
     fn write(&mut self, piece: &[u8]) -> Result<usize, CallErr>
-        ensures fails { (result ≡ Err CallErr.Failed) ↔ FailsNext self.old.calls }
-        ensures counted { CountsCall self.old.calls self.new.calls }
+        ensures fails { (result ≡ Err CallErr.Failed) ↔ FailsNext (sink_calls self.old) }
+        ensures counted { CountsCall (sink_calls self.old) (sink_calls self.new) }
         ensures step { sink_step self.new ≡ sink_step self.old }
         ensures taken { IfOk result (λ count. count ≡ min (length piece.now) (sink_step self.old)) }
 
         ensures some { IfOk result (λ count. 0 < length piece.now → 0 < count) }
-        ensures bytes { IfOk result (λ count. ⟦<MemSink as Sink>⟧.told self.new ≡ grown (⟦<MemSink as Sink>⟧.told self.old) (take count piece.now)) }
-        ensures refused { OnErr result (⟦<MemSink as Sink>⟧.told self.new ≡ ⟦<MemSink as Sink>⟧.told self.old) }
-        ensures failed { IsErrOf result CallErr.Failed → Rose (⟦<MemSink as Sink>⟧.faults self.old) (⟦<MemSink as Sink>⟧.faults self.new) }
-        ensures kept { result ≢ Err CallErr.Failed → ⟦<MemSink as Sink>⟧.faults self.new ≡ ⟦<MemSink as Sink>⟧.faults self.old }
-        ensures later { ⟦<MemSink as Sink>⟧.faults self.old ≤ ⟦<MemSink as Sink>⟧.faults self.new }
-        ensures bounded { ⟦<MemSink as Sink>⟧.faults self.new < 2 ^ 64 }
+        ensures bytes { IfOk result (λ count.
+            sink_told self.new ≡ grown (sink_told self.old) (take count piece.now)) }
+        ensures refused { OnErr result (sink_told self.new ≡ sink_told self.old) }
+        ensures faults { CountsFault sink_faults self.old self.new result CallErr.Failed }
+        ensures bounded { sink_faults self.new < 2 ^ 64 }
     {
         if self.calls.fails_next() {
             return Err(CallErr::Failed);

@@ -1,5 +1,7 @@
-ghost use Rattle.std.specs.Prelude.{◌≡◌, ◌≤◌, ◌+◌, None, length, nat_le, vec_len, IfOk, OnOk};
+ghost use Rattle.std.specs.Prelude.{◌≡◌, ℕ, ◌≤◌, ◌<◌, ◌+◌, List, Option, None, length, nat_le, vec_len, IfOk, IfSome, IsTrue, OnOk};
+ghost use Rattle.std.specs.Io.KnownBytes.{Appends, Consumes, IsAtEnd};
 ghost use Rattle.hdr_core.specs.Faults.{fault_count};
+ghost use Rattle.hdr_core.specs.Readings.{IsRead};
 
 use crate::errors::{CallErr, FileErr};
 use crate::faults::Faults;
@@ -16,6 +18,9 @@ const MOST_ENTRIES: usize = 4_194_304;
 
 // How many bytes are asked for at once.
 const PIECE: usize = 65_536;
+
+// How many bytes are compared at once. They lie on the stack.
+const COMPARED: usize = 4_096;
 
 /// The files of the system's folders. It doesn't say what they hold.
 ///
@@ -146,7 +151,8 @@ impl Walk {
     }
 }
 
-// Reads a whole file, and says whether it is short enough. Of a longer one no more is read than shows that it is longer.
+// Reads a whole file, and says whether it is short enough. Of a longer one no more is read than shows
+// that it is longer.
 fn read_file<R: rt::Files>(
     rt: &R,
     path: &str,
@@ -165,7 +171,9 @@ fn read_pieces<R: Read + Drop>(
     buffer: &mut [u8],
     into: &mut Vec<u8>,
 ) -> io::Result<bool>
-    ensures { IfOk result (λ fits. fits ≡ nat_le (length into.new.items) LONGEST_FILE) }
+    requires { 0 < length buffer.old }
+    ensures fits { IfOk result (λ fits. fits ≡ nat_le (length into.new.items) LONGEST_FILE) }
+    ensures bytes { IfOk result (λ fits. IfSome (R.remaining file) (λ held. IsRead held fits into.new.items)) }
 {
     into.clear();
     while into.len() <= LONGEST_FILE {
@@ -181,13 +189,21 @@ fn read_pieces<R: Read + Drop>(
 fn read_piece<R: Read>(file: &mut R, buffer: &mut [u8], into: &mut Vec<u8>) -> io::Result<usize>
     ensures within { IfOk result (λ count. count ≤ length buffer.old) }
     ensures behind { IfOk result (λ count. vec_len into.new ≡ vec_len into.old + count) }
+    ensures bytes { OnOk result ((first : Option (List ℕ)) →
+        Consumes first (R.remaining file.old) into.old.items →
+        Consumes first (R.remaining file.new) into.new.items) }
+    ensures end { IfOk result (λ count.
+        count ≡ 0 → 0 < length buffer.old → IsAtEnd (R.remaining file.new)) }
 {
     let count = file.read(buffer)?;
     into.extend_from_slice(&buffer[..count])?;
     Ok(count)
 }
 
-/// Writes files into the system's folders, and makes the folders that a path needs. It doesn't say what was written.
+/// Writes files into the system's folders, and makes the folders that a path needs. It doesn't say
+/// what was written.
+///
+/// A file that has the same bytes already is left alone, so that its time stays.
 #[derive(Drop)]
 pub struct DirOuts<R> {
     rt: R,
@@ -219,13 +235,59 @@ impl<R: rt::Files + Drop> Outs for DirOuts<R> {
 }
 
 fn write_file<R: rt::Files>(rt: &R, path: &str, bytes: &[u8]) -> io::Result<()> {
+    if holds_bytes(rt, path, bytes) {
+        return Ok(());
+    }
+    let mut file = create_file(rt, path)?;
+    write_bytes(&mut file, bytes)
+}
+
+// Whether a file can be read and has these bytes. One of another length is not opened.
+fn holds_bytes<R: rt::Files>(rt: &R, path: &str, bytes: &[u8]) -> bool {
+    match fs::metadata(rt, path) {
+        Ok(about) if about.is_file() && about.len() == bytes.len() as u64 => {}
+        _ => return false,
+    }
+    match File::open(rt, path) {
+        Ok(file) => gives_bytes(file, bytes),
+        Err(_) => false,
+    }
+}
+
+// Whether readings give these bytes and then end. Where one fails, they don't.
+fn gives_bytes<R: Read + Drop>(mut file: R, bytes: &[u8]) -> bool
+    ensures { IsTrue result → IfSome (R.remaining file) (λ held. held ≡ bytes.now) }
+{
+    let mut buffer = [0; COMPARED];
+    let mut at = 0;
+    loop {
+        let Ok(count) = file.read(&mut buffer) else {
+            return false;
+        };
+        if count == 0 {
+            return at == bytes.len();
+        }
+        if !bytes[at..].starts_with(&buffer[..count]) {
+            return false;
+        }
+        at += count;
+    }
+}
+
+// A new file. The folders that its path needs are made only where there is no file without.
+fn create_file<R: rt::Files>(rt: &R, path: &str) -> io::Result<R::File> {
+    if let Ok(file) = File::create(rt, path) {
+        return Ok(file);
+    }
     if let Some(folder) = Path::new(path).parent() {
         fs::create_dir_all(rt, folder)?;
     }
-    write_bytes(File::create(rt, path)?, bytes)
+    File::create(rt, path)
 }
 
-fn write_bytes<W: Write + Drop>(mut file: W, bytes: &[u8]) -> io::Result<()> {
+fn write_bytes<W: Write>(file: &mut W, bytes: &[u8]) -> io::Result<()>
+    ensures { OnOk result (Appends (W.contents file.old) (W.contents file.new) bytes.now) }
+{
     let mut at = 0;
     while at < bytes.len() {
         match file.write(&bytes[at..])? {

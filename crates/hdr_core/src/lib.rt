@@ -4,6 +4,7 @@
 mod calls;
 mod code;
 mod compared;
+mod copies;
 mod diagnostics;
 mod errors;
 mod failing;
@@ -23,8 +24,9 @@ mod threads;
 mod try_copy;
 
 pub use calls::Calls;
-pub use code::Code;
-pub use diagnostics::{Diag, print_diags};
+pub use code::{CODES, Code};
+pub use copies::copy_three;
+pub use diagnostics::{Diag, print_diags, sort_diags};
 pub use errors::{CallErr, FileErr};
 pub use failing::{MemFiles, MemOuts, MemSink};
 pub use files::{Files, LONGEST_FILE};

@@ -1,5 +1,7 @@
-ghost use Rattle.std.specs.Prelude.{◌≡◌};
+ghost use Rattle.std.specs.Prelude.{◌≡◌, [], ◌∷◌, ◌++◌, length, ◌↔◌, IsTrue, OnOk, OnErr};
+ghost use Rattle.hdr_core.specs.Stack.{top, below};
 
+use crate::memory::Memory;
 use std::marker::Model;
 
 /// A `Vec` that contracts see as the list of its items, so that a copy equals its source.
@@ -41,6 +43,37 @@ impl<T> List<T> {
     {
         let List { items } = self;
         items
+    }
+
+    pub fn len(&self) -> usize
+        ensures { result ≡ length self.now }
+    {
+        self.items.len()
+    }
+
+    pub fn is_empty(&self) -> bool
+        ensures { IsTrue result ↔ (self.now ≡ []) }
+    {
+        self.items.is_empty()
+    }
+
+    /// Takes the last item off. Takes no memory.
+    pub fn pop(&mut self) -> Option<T>
+        ensures top { result ≡ top self.old }
+        ensures below { self.new ≡ below self.old }
+    {
+        self.items.pop()
+    }
+}
+
+impl<T: Drop> List<T> {
+    /// Puts an item behind the others.
+    pub fn push(&mut self, item: T) -> Result<(), Memory>
+        ensures ok { OnOk result (self.new ≡ self.old ++ item ∷ []) }
+        ensures err { OnErr result (self.new ≡ self.old) }
+    {
+        self.items.push(item)?;
+        Ok(())
     }
 }
 

@@ -1,5 +1,5 @@
-ghost use Rattle.std.specs.Prelude.{◌≡◌, ◌≢◌, ℕ, ◌≤◌, ◌<◌, ◌^◌, List, Option, Err, IsErrOf, OnOk, OnErr};
-ghost use Rattle.hdr_core.specs.Causes.{Rose};
+ghost use Rattle.std.specs.Prelude.{◌≡◌, ℕ, ◌<◌, ◌^◌, List, Option, OnOk, OnErr};
+ghost use Rattle.hdr_core.specs.Causes.{CountsFault};
 ghost use Rattle.hdr_core.specs.Held.{with_file};
 
 use crate::errors::CallErr;
@@ -14,11 +14,9 @@ pub trait Outs {
 
     /// Writes a file. After a refusal there may be any bytes at the path.
     fn put(&mut self, path: &str, bytes: &[u8]) -> Result<(), CallErr>
-        ensures ok { OnOk result (written self.new ≡ with_file (written self.old) path.now bytes.now) }
+        ensures ok { OnOk result
+            (written self.new ≡ with_file (written self.old) path.now bytes.now) }
         ensures err { OnErr result (written self.new ≡ written self.old) }
-
-        ensures failed { IsErrOf result CallErr.Failed → Rose (faults self.old) (faults self.new) }
-        ensures kept { result ≢ Err CallErr.Failed → faults self.new ≡ faults self.old }
-        ensures later { faults self.old ≤ faults self.new }
+        ensures faults { CountsFault faults self.old self.new result CallErr.Failed }
         ensures bounded { faults self.new < 2 ^ 64 };
 }

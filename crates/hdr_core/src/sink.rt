@@ -1,5 +1,5 @@
-ghost use Rattle.std.specs.Prelude.{◌≡◌, ◌≢◌, ℕ, ◌≤◌, ◌<◌, ◌^◌, Option, List, take, length, Err, IfOk, OnOk, OnErr, IsErrOf};
-ghost use Rattle.hdr_core.specs.Causes.{Rose, grown, GrewByFront};
+ghost use Rattle.std.specs.Prelude.{◌≡◌, ℕ, ◌≤◌, ◌<◌, ◌^◌, Option, List, take, length, IfOk, OnOk, OnErr};
+ghost use Rattle.hdr_core.specs.Causes.{CountsFault, grown, GrewByFront};
 
 use crate::errors::CallErr;
 
@@ -11,16 +11,15 @@ pub trait Sink {
     /// How many of its calls failed. The count stands still at the end of 64 bits.
     ghost faults: { Self → ℕ };
 
-    /// Takes the first bytes of the piece, and answers how many: at least one of a piece that isn't empty.
+    /// Takes the first bytes of the piece, and answers how many: at least one of a piece that isn't
+    /// empty.
     fn write(&mut self, piece: &[u8]) -> Result<usize, CallErr>
         ensures within { IfOk result (λ count. count ≤ length piece.now) }
         ensures some { IfOk result (λ count. 0 < length piece.now → 0 < count) }
-        ensures bytes { IfOk result (λ count. told self.new ≡ grown (told self.old) (take count piece.now)) }
+        ensures bytes { IfOk result (λ count.
+            told self.new ≡ grown (told self.old) (take count piece.now)) }
         ensures refused { OnErr result (told self.new ≡ told self.old) }
-
-        ensures failed { IsErrOf result CallErr.Failed → Rose (faults self.old) (faults self.new) }
-        ensures kept { result ≢ Err CallErr.Failed → faults self.new ≡ faults self.old }
-        ensures later { faults self.old ≤ faults self.new }
+        ensures faults { CountsFault faults self.old self.new result CallErr.Failed }
         ensures bounded { faults self.new < 2 ^ 64 };
 }
 
@@ -30,10 +29,7 @@ pub trait Sink {
 pub fn write_whole<S: Sink>(piece: &[u8], sink: &mut S) -> Result<(), CallErr>
     ensures ok { OnOk result (S.told sink.new ≡ grown (S.told sink.old) piece.now) }
     ensures err { OnErr result (GrewByFront (S.told sink.old) (S.told sink.new) piece.now) }
-
-    ensures failed { IsErrOf result CallErr.Failed → Rose (S.faults sink.old) (S.faults sink.new) }
-    ensures kept { result ≢ Err CallErr.Failed → S.faults sink.new ≡ S.faults sink.old }
-    ensures later { S.faults sink.old ≤ S.faults sink.new }
+    ensures faults { CountsFault S.faults sink.old sink.new result CallErr.Failed }
 {
     let mut at = 0;
     while at < piece.len() {

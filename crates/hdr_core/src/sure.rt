@@ -1,8 +1,8 @@
 //! Objects in memory that never fail.
-ghost use Rattle.std.specs.Prelude.{◌≡◌, ◌≢◌, ◌≤◌, ◌<◌, [], Some, Err, length, map, string_bytes, IfOk, IfSome, IsSome, IsErrOf, OnOk, OnErr};
+ghost use Rattle.std.specs.Prelude.{◌≡◌, ◌≢◌, ◌≤◌, [], Some, Err, length, map, string_bytes, IfOk, IsErrOf, OnOk, OnErr};
 ghost use Rattle.hdr_core.specs.Causes.{grown};
-ghost use Rattle.hdr_core.specs.Held.{held_at, IsListing, with_file};
-ghost use Rattle.hdr_core.specs.InMemory.{held_files};
+ghost use Rattle.hdr_core.specs.Held.{ListsWhereTold, HoldsPath, HoldsBytes, HoldsWithin, HoldsBeyond, with_file};
+ghost use Rattle.hdr_core.specs.InMemory.{held_files, sure_held, sure_written, sure_told};
 
 use crate::errors::{CallErr, FileErr};
 use crate::files::{Files, LONGEST_FILE};
@@ -30,24 +30,26 @@ impl SureFiles {
 }
 
 impl Files for SureFiles {
-    ghost held = { λ sure. Some (held_files sure.files.items) };
+    ghost held = { sure_held };
 
     ghost faults = { λ _. 0 };
 
     fn list(&mut self, alloc: Global, root: &str) -> Result<Vec<String>, CallErr>
-        ensures paths { IfOk result (λ paths. IfSome (⟦<SureFiles as Files>⟧.held self.old) (λ files. IsListing files root.now (map string_bytes paths.items))) }
-        ensures held { ⟦<SureFiles as Files>⟧.held self.new ≡ ⟦<SureFiles as Files>⟧.held self.old }
+        ensures paths { IfOk result (λ paths.
+            ListsWhereTold (sure_held self.old) root.now (map string_bytes paths.items)) }
+        ensures held { sure_held self.new ≡ sure_held self.old }
         ensures sure { result ≢ Err CallErr.Failed }
     {
         Ok(list_held(alloc, &self.files, root)?)
     }
 
     fn read(&mut self, path: &str, into: &mut Vec<u8>) -> Result<(), FileErr>
-        requires { IfSome (⟦<SureFiles as Files>⟧.held self.old) (λ files. IsSome (held_at files path.now)) }
-        ensures bytes { OnOk result (IfSome (⟦<SureFiles as Files>⟧.held self.old) (λ files. held_at files path.now ≡ Some into.new.items)) }
+        requires { HoldsPath (sure_held self.old) path.now }
+        ensures bytes { OnOk result (HoldsBytes (sure_held self.old) path.now into.new.items) }
         ensures fits { OnOk result (length into.new.items ≤ LONGEST_FILE) }
-        ensures too_long { IsErrOf result FileErr.TooLong → IfSome (⟦<SureFiles as Files>⟧.held self.old) (λ files. IfSome (held_at files path.now) (λ bytes. LONGEST_FILE < length bytes)) }
-        ensures held { ⟦<SureFiles as Files>⟧.held self.new ≡ ⟦<SureFiles as Files>⟧.held self.old }
+        ensures too_long { IsErrOf result FileErr.TooLong →
+            HoldsBeyond (sure_held self.old) path.now LONGEST_FILE }
+        ensures held { sure_held self.new ≡ sure_held self.old }
         ensures sure { result ≢ Err FileErr.Failed }
     {
         copy_held(&self.files, path, into)
@@ -82,13 +84,14 @@ impl SureOuts {
 }
 
 impl Outs for SureOuts {
-    ghost written = { λ sure. Some (held_files sure.written.items) };
+    ghost written = { sure_written };
 
     ghost faults = { λ _. 0 };
 
     fn put(&mut self, path: &str, bytes: &[u8]) -> Result<(), CallErr>
-        ensures ok { OnOk result (⟦<SureOuts as Outs>⟧.written self.new ≡ with_file (⟦<SureOuts as Outs>⟧.written self.old) path.now bytes.now) }
-        ensures err { OnErr result (⟦<SureOuts as Outs>⟧.written self.new ≡ ⟦<SureOuts as Outs>⟧.written self.old) }
+        ensures ok { OnOk result
+            (sure_written self.new ≡ with_file (sure_written self.old) path.now bytes.now) }
+        ensures err { OnErr result (sure_written self.new ≡ sure_written self.old) }
         ensures sure { result ≢ Err CallErr.Failed }
     {
         Ok(push_file(self.alloc, &mut self.written, path, bytes)?)
@@ -121,14 +124,14 @@ impl SureSink {
 }
 
 impl Sink for SureSink {
-    ghost told = { λ sure. Some sure.told.items };
+    ghost told = { sure_told };
 
     ghost faults = { λ _. 0 };
 
     fn write(&mut self, piece: &[u8]) -> Result<usize, CallErr>
         ensures whole { IfOk result (λ count. count ≡ length piece.now) }
-        ensures ok { OnOk result (⟦<SureSink as Sink>⟧.told self.new ≡ grown (⟦<SureSink as Sink>⟧.told self.old) piece.now) }
-        ensures refused { OnErr result (⟦<SureSink as Sink>⟧.told self.new ≡ ⟦<SureSink as Sink>⟧.told self.old) }
+        ensures ok { OnOk result (sure_told self.new ≡ grown (sure_told self.old) piece.now) }
+        ensures refused { OnErr result (sure_told self.new ≡ sure_told self.old) }
         ensures sure { result ≢ Err CallErr.Failed }
     {
         self.told.extend_from_slice(piece)?;

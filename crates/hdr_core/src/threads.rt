@@ -1,16 +1,20 @@
 //! Which values workers may share, and which they may hand over.
 ghost use Rattle.std.specs.Thread.{IsSync, IsSend};
 
+use crate::calls::Calls;
 use crate::code::Code;
 use crate::diagnostics::Diag;
 use crate::errors::{CallErr, FileErr};
+use crate::failing::{MemFiles, MemOuts, MemSink};
 use crate::gate::NoGate;
 use crate::held::HeldFile;
 use crate::list::List;
 use crate::memory::Memory;
+use crate::sure::{SureFiles, SureOuts, SureSink};
 use crate::text::Text;
 
-/// Shows that workers may share and hand over the values of a type: a crate calls this at each such type of its own.
+/// Shows that workers may share and hand over the values of a type: a crate calls this at each such
+/// type of its own.
 pub fn crosses_threads<T: Sync + Send>() {
     is_shared::<T>();
     is_handed_over::<T>();
@@ -38,4 +42,14 @@ fn values_cross() {
     crosses_threads::<Diag>();
     crosses_threads::<HeldFile>();
     crosses_threads::<NoGate>();
+}
+
+fn objects_in_memory_cross() {
+    crosses_threads::<Calls>();
+    crosses_threads::<MemFiles>();
+    crosses_threads::<MemOuts>();
+    crosses_threads::<MemSink>();
+    crosses_threads::<SureFiles>();
+    crosses_threads::<SureOuts>();
+    crosses_threads::<SureSink>();
 }

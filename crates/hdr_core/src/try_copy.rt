@@ -5,7 +5,7 @@ use crate::memory::Memory;
 use crate::text::Text;
 use std::alloc::Global;
 
-/// What can be try_copy whole, so that a list of it can.
+/// What can be copied whole, so that a list of it can.
 pub trait TryCopy: Sized {
     fn try_copy(&self, alloc: Global) -> Result<Self, Memory>
         ensures { IfOk result (λ copy. copy ≡ self.now) };

@@ -1,0 +1,2 @@
+//! Lemmas on lists and tables that proofs of several crates cite. No code.
+#![tactic(auto)]
