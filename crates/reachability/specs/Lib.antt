@@ -1,0 +1,3 @@
+pub mod Flat
+pub mod Reached
+pub mod Search
