@@ -1,0 +1,3 @@
+pub mod Decoded
+pub mod Inverse
+pub mod ModifiedUtf8

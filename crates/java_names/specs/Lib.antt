@@ -1,0 +1,4 @@
+pub mod ModifiedUtf8
+pub mod Names
+pub mod Paths
+pub mod Units
