@@ -3,11 +3,11 @@ use Rattle.std.proofs.Common.{◌≡◌, refl, sym, ap, ◌∙◌, subst, ℕ, z
 use Rattle.std.specs.Prelude.{nat_lt}
 use Rattle.std.specs.List.{position_or_len}
 use Rattle.std.proofs.lemmas.Bool.{false≢true, ltb-true, ltb-false, le-ltb}
-use Rattle.class_desc.specs.Nesting.{greatest}
-use Rattle.class_desc.proofs.Levels.{depth_after, byte_level, counted, text_levels}
-use Rattle.signature_scan.specs.declared.place.SigPlace.TheVariants.{ClassPlace, MethodPlace, FieldPlace}
-use Rattle.signature_scan.specs.declared.part.Wanted.{Wanted}
-use Rattle.signature_scan.specs.declared.part.Wanted.TheVariants as wanted
+use Rattle.java_types.specs.Nesting.{greatest}
+use Rattle.java_types.proofs.Levels.{depth_after, byte_level, counted, text_levels}
+use Rattle.java_types.specs.declared.production.SigPlace.TheVariants.{ClassPlace, MethodPlace, FieldPlace}
+use Rattle.java_types.specs.declared.production.Production.{Production}
+use Rattle.java_types.specs.declared.production.Production.TheVariants.{AnyResult, AnyType, Reference, Thrown, ClassType, Element}
 use Rattle.signature_scan.specs.declared.part.Part.{Part}
 use Rattle.signature_scan.specs.declared.part.Part.TheVariants as part
 use Rattle.signature_scan.specs.declared.state.Around.{Around}
@@ -15,7 +15,7 @@ use Rattle.signature_scan.specs.declared.state.Around.TheVariants as around
 use Rattle.signature_scan.specs.declared.state.State.{State}
 use Rattle.signature_scan.specs.declared.state.State.TheVariants as state
 use Rattle.signature_scan.specs.Machine.{next, depth_of, deeper}
-use Rattle.signature_scan.proofs.States.{below, same_below}
+use Rattle.lemmas.proofs.Tables.{below, same_below}
 
 abbrev pub is_start : State → Bool
 is_start (state.Start place) = true
@@ -53,13 +53,13 @@ expected s b = (false, depth_behind (is_start s) (depth_of s) b)
 abbrev Tabled : State → Type 0
 Tabled s = map (λ b. told (expected s b) (next s b)) (below 256) ≡ map (expected s) (below 256)
 
-type_tabled : (w : Wanted) (a : Around) (depth : ℕ) → Tabled (state.Within (part.Type w) a depth)
-type_tabled wanted.AnyResult a depth = refl
-type_tabled wanted.AnyType a depth = refl
-type_tabled wanted.Reference a depth = refl
-type_tabled wanted.Thrown a depth = refl
-type_tabled wanted.ClassType a depth = refl
-type_tabled wanted.Element a depth = refl
+type_tabled : (w : Production) (a : Around) (depth : ℕ) → Tabled (state.Within (part.Type w) a depth)
+type_tabled AnyResult a depth = refl
+type_tabled AnyType a depth = refl
+type_tabled Reference a depth = refl
+type_tabled Thrown a depth = refl
+type_tabled ClassType a depth = refl
+type_tabled Element a depth = refl
 
 within_tabled : (p : Part) (a : Around) (depth : ℕ) → Tabled (state.Within p a depth)
 within_tabled (part.Type w) a depth = type_tabled w a depth

@@ -1,10 +1,12 @@
 -- Languages as expressions, and the expressions for what a byte leaves of them.
 use Rattle.std.proofs.Common.{◌≡◌, ◌↔◌, ◌⊎◌, inl, inr, refl, ap, ℕ, zero, suc, ◌≤◌, Bool, true, false, ◌&&◌, ◌||◌, ◌==◌, eq-eqb, eqb-true, List, [], ◌∷◌, ◌++◌, replicate}
 use Rattle.std.proofs.lemmas.Bool.{false≢true}
-use Rattle.class_desc.specs.declared.types.JType.{JType}
-use Rattle.class_desc.specs.Types.{type_text}
-use Rattle.class_desc.specs.Descriptor.{is_primitive}
-use Rattle.class_desc.specs.Signature.{Production, Reference, Element, is_type, allows_void, allows_primitive, allows_variable, allows_array}
+use Rattle.java_types.specs.declared.types.JType.{JType}
+use Rattle.java_types.specs.Types.{type_text}
+use Rattle.java_types.specs.Descriptor.{is_primitive}
+use Rattle.java_types.specs.declared.production.Production.{Production}
+use Rattle.java_types.specs.declared.production.Production.TheVariants.{Reference, Element}
+use Rattle.java_types.specs.Signature.{is_type, allows_void, allows_primitive, allows_variable, allows_array}
 use Rattle.signature_scan.specs.Machine.{is_name_byte}
 use Rattle.signature_scan.proofs.Conjunctions.{and_true, or_true}
 use Rattle.signature_scan.proofs.Languages.{same, and_then, turned, either, pair, swap, Cat, cats, Empty, cat_empty, cat_cons, cat_first, cat_last, cat_assoc, cat_or, Star, star_none, star_cons}

@@ -1,6 +1,6 @@
 -- Texts of things and of lists of things as languages.
-use Rattle.std.proofs.Common.{◌≡◌, ◌↔◌, refl, sym, ap, ◌∙◌, ℕ, zero, suc, Bool, true, ◌&&◌, List, [], ◌∷◌, ◌++◌, map}
-use Rattle.std.specs.List.{list_all, flat_map, concat}
+use Rattle.std.proofs.Common.{◌≡◌, ◌↔◌, refl, sym, ap, ◌∙◌, ℕ, zero, suc, Bool, true, List, [], ◌∷◌, ◌++◌}
+use Rattle.std.specs.List.{list_all, flat_map}
 use Rattle.signature_scan.proofs.Conjunctions.{and_true}
 use Rattle.signature_scan.proofs.Languages.{Cat, Star, star_more, Times}
 use Rattle.signature_scan.proofs.Expressions.{Byte, Words, IsTextOf}
@@ -47,15 +47,3 @@ module _ {T : Type 0} (test : T → Bool) (text : T → List ℕ) (L : List ℕ 
     λ c. (let t = (one c.rest).1 c.second in
         record { item = t.item; is = t.is; whole = c.whole ∙ ap (λ (v : List ℕ). v ++ c.rest) c.first ∙ ap (λ (v : List ℕ). n ∷ v) t.whole }),
   )
-
-pub all_map : {A B : Type 0} (test : B → Bool) (f : A → B) (xs : List A) → list_all test (map f xs) ≡ list_all (λ x. test (f x)) xs
-all_map test f [] = refl
-all_map test f (x ∷ xs) = ap (λ t. test (f x) && t) (all_map test f xs)
-
-pub flat_map-map : {A B : Type 0} (text : B → List ℕ) (f : A → B) (xs : List A) → flat_map text (map f xs) ≡ flat_map (λ x. text (f x)) xs
-flat_map-map text f [] = refl
-flat_map-map text f (x ∷ xs) = ap (λ t. text (f x) ++ t) (flat_map-map text f xs)
-
-pub concat-map : {A : Type 0} (f : A → List ℕ) (xs : List A) → concat (map f xs) ≡ flat_map f xs
-concat-map f [] = refl
-concat-map f (x ∷ xs) = ap (λ t. f x ++ t) (concat-map f xs)

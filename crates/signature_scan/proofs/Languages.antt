@@ -1,5 +1,5 @@
 -- Words, and what is left of languages behind a byte.
-use Rattle.std.proofs.Common.{◌≡◌, ◌↔◌, ◌⊎◌, inl, inr, refl, sym, ap, ◌∙◌, ℕ, zero, suc, Bool, true, List, [], ◌∷◌, ◌++◌, append_assoc}
+use Rattle.std.proofs.Common.{◌≡◌, ◌↔◌, ◌⊎◌, inl, inr, refl, sym, ap, ◌∙◌, ℕ, zero, suc, Bool, true, List, [], ◌∷◌, ◌++◌, append_assoc, append-nil}
 
 -- ---- facts that say the same
 
@@ -80,15 +80,11 @@ cat_first K w = (λ c. by c.front c.rest c.whole c.first c.second, λ k. record 
     by [] rest e f k = rw e k
     by (b ∷ front) rest e f k = absurd (cc)
 
-append_nothing : (xs : List ℕ) → xs ++ [] ≡ xs
-append_nothing [] = refl
-append_nothing (x ∷ xs) = ap (λ v. x ∷ v) (append_nothing xs)
-
 pub cat_last : (L : List ℕ → Type 0) (w : List ℕ) → Cat L Empty w ↔ L w
-cat_last L w = (λ c. by c.front c.rest c.whole c.first c.second, λ l. record { front = w; rest = []; whole = sym (append_nothing w); first = l; second = refl })
+cat_last L w = (λ c. by c.front c.rest c.whole c.first c.second, λ l. record { front = w; rest = []; whole = sym (append-nil w); first = l; second = refl })
   where
     by : (front rest : List ℕ) → w ≡ front ++ rest → L front → rest ≡ [] → L w
-    by front [] e l r = let same : w ≡ front = e ∙ append_nothing front in rw same l
+    by front [] e l r = let same : w ≡ front = e ∙ append-nil front in rw same l
     by front (b ∷ rest) e l r = absurd (cc)
 
 pub cat_assoc : (L K M : List ℕ → Type 0) (w : List ℕ) → Cat (Cat L K) M w ↔ Cat L (Cat K M) w

@@ -1,6 +1,7 @@
 mod Conjunctions
 mod Depths
 mod Expressions
+mod Functions
 mod Items
 mod Languages
 mod Lives

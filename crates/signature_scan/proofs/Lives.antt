@@ -1,8 +1,9 @@
 -- Each state goes on to some signature, and ends one exactly where it says so.
 use Rattle.std.proofs.Common.{◌≡◌, ◌↔◌, inl, refl, ℕ, zero, suc, Bool, true, false, ◌&&◌, ◌||◌, arith, List, [], ◌∷◌, ◌++◌}
 use Rattle.std.proofs.lemmas.Bool.{false≢true}
-use Rattle.class_desc.specs.Signature.{Production, Element}
-use Rattle.signature_scan.specs.declared.place.SigPlace.TheVariants.{ClassPlace, MethodPlace, FieldPlace}
+use Rattle.java_types.specs.declared.production.Production.{Production}
+use Rattle.java_types.specs.declared.production.Production.TheVariants.{Element}
+use Rattle.java_types.specs.declared.production.SigPlace.TheVariants.{ClassPlace, MethodPlace, FieldPlace}
 use Rattle.signature_scan.specs.declared.part.Part.{Part}
 use Rattle.signature_scan.specs.declared.part.Part.TheVariants as part
 use Rattle.signature_scan.specs.declared.state.Around.{Around}

@@ -4,7 +4,7 @@ use Rattle.std.specs.List.{list_all, slice_split, onto_first}
 use Rattle.std.proofs.Math.Dec.{eqb-suc-zero}
 use Rattle.std.proofs.lemmas.Bool.{false≢true}
 use Rattle.std.proofs.lemmas.List.Splits.{slice_split-cons_yes, slice_split-cons_no}
-use Rattle.class_desc.specs.Signature.{is_identifier, is_binary_name}
+use Rattle.java_names.specs.Names.{is_identifier, is_binary_name}
 use Rattle.signature_scan.specs.Machine.{is_name_byte}
 use Rattle.signature_scan.proofs.Conjunctions.{and_true}
 use Rattle.signature_scan.proofs.Languages.{same, and_then, turned, either, pair, Cat, cat_empty, cat_assoc, Star, star_none, star_more, star_step, star_begins, only_right, only_left, known, same_test}

@@ -3,15 +3,16 @@ use Rattle.std.proofs.Common.{◌≡◌, ◌↔◌, inl, inr, refl, ap, ◌∙�
 use Rattle.std.specs.Prelude.{codes}
 use Rattle.std.specs.List.{list_all, flat_map}
 use Rattle.std.proofs.lemmas.Bool.{false≢true}
-use Rattle.class_desc.specs.declared.types.JType.{JType}
-use Rattle.class_desc.specs.declared.types.JParam.{JParam}
-use Rattle.class_desc.specs.declared.types.JSig.{JSig}
-use Rattle.class_desc.specs.declared.types.JSig.TheVariants.{OfClass, OfMethod, OfField}
-use Rattle.class_desc.specs.Types.{type_text, bound_text, param_text, params_text, signature_text}
-use Rattle.class_desc.specs.Signature.{AnyResult, AnyType, Reference, Thrown, ClassType, Place, AtClass, AtMethod, AtField, SignatureSpells, is_type, is_identifier, are_types, is_class_bound, is_param, is_signature}
-use Rattle.signature_scan.specs.declared.place.SigPlace.{SigPlace}
-use Rattle.signature_scan.specs.declared.place.SigPlace.TheVariants.{ClassPlace, MethodPlace, FieldPlace}
-use Rattle.signature_scan.specs.Scanned.{place_of}
+use Rattle.java_types.specs.declared.types.JType.{JType}
+use Rattle.java_types.specs.declared.types.JParam.{JParam}
+use Rattle.java_types.specs.declared.types.JSig.{JSig}
+use Rattle.java_types.specs.declared.types.JSig.TheVariants.{OfClass, OfMethod, OfField}
+use Rattle.java_types.specs.Types.{type_text, bound_text, param_text, params_text, signature_text}
+use Rattle.java_types.specs.declared.production.Production.TheVariants.{AnyResult, AnyType, Reference, Thrown, ClassType}
+use Rattle.java_types.specs.declared.production.SigPlace.{SigPlace}
+use Rattle.java_types.specs.declared.production.SigPlace.TheVariants.{ClassPlace, MethodPlace, FieldPlace}
+use Rattle.java_types.specs.Signature.{SignatureSpells, is_type, are_types, is_class_bound, is_param, is_signature}
+use Rattle.java_names.specs.Names.{is_identifier}
 use Rattle.signature_scan.specs.declared.state.State.TheVariants as state
 use Rattle.signature_scan.proofs.Conjunctions.{and_true, three_true, four_true}
 use Rattle.signature_scan.proofs.Languages.{same, and_then, turned, Star}
@@ -134,10 +135,10 @@ throws_is w = list_is (λ thrown. is_type thrown Thrown) (λ thrown. 94 ∷ type
 -- ---- signatures
 
 -- some signature has this text
-abbrev pub Spelled : Place → List ℕ → Type 0
+abbrev pub Spelled : SigPlace → List ℕ → Type 0
 Spelled place w = (sig : JSig) × SignatureSpells place sig w
 
-class_to : (w : List ℕ) (sig : JSig) → is_signature AtClass sig ≡ true → w ≡ signature_text sig → Rows (parameters ∷ body_row ClassPlace) w
+class_to : (w : List ℕ) (sig : JSig) → is_signature ClassPlace sig ≡ true → w ≡ signature_text sig → Rows (parameters ∷ body_row ClassPlace) w
 class_to w (OfMethod params formals ret thrown) is e = absurd (false≢true is)
 class_to w (OfField type) is e = absurd (false≢true is)
 class_to w (OfClass params super interfaces) is e =
@@ -156,7 +157,7 @@ class_to w (OfClass params super interfaces) is e =
       };
     }
 
-class_back : (w : List ℕ) → Rows (parameters ∷ body_row ClassPlace) w → Spelled AtClass w
+class_back : (w : List ℕ) → Rows (parameters ∷ body_row ClassPlace) w → Spelled ClassPlace w
 class_back w c =
     let params = params_back c.front c.first in
     let super = c.second.first in
@@ -169,7 +170,7 @@ class_back w c =
       },
     )
 
-method_to : (w : List ℕ) (sig : JSig) → is_signature AtMethod sig ≡ true → w ≡ signature_text sig → Rows (parameters ∷ body_row MethodPlace) w
+method_to : (w : List ℕ) (sig : JSig) → is_signature MethodPlace sig ≡ true → w ≡ signature_text sig → Rows (parameters ∷ body_row MethodPlace) w
 method_to w (OfClass params super interfaces) is e = absurd (false≢true is)
 method_to w (OfField type) is e = absurd (false≢true is)
 method_to w (OfMethod params formals ret thrown) is e =
@@ -207,7 +208,7 @@ method_to w (OfMethod params formals ret thrown) is e =
       };
     }
 
-method_back : (w : List ℕ) → Rows (parameters ∷ body_row MethodPlace) w → Spelled AtMethod w
+method_back : (w : List ℕ) → Rows (parameters ∷ body_row MethodPlace) w → Spelled MethodPlace w
 method_back w c =
     let params = params_back c.front c.first in
     let opened = c.second in
@@ -226,16 +227,16 @@ method_back w c =
       },
     )
 
-field_to : (w : List ℕ) (sig : JSig) → is_signature AtField sig ≡ true → w ≡ signature_text sig → Rows (body_row FieldPlace) w
+field_to : (w : List ℕ) (sig : JSig) → is_signature FieldPlace sig ≡ true → w ≡ signature_text sig → Rows (body_row FieldPlace) w
 field_to w (OfClass params super interfaces) is e = absurd (false≢true is)
 field_to w (OfMethod params formals ret thrown) is e = absurd (false≢true is)
 field_to w (OfField type) is e = (row_one (Kind Reference) w).1 (record { item = type; is = is; whole = e })
 
-field_back : (w : List ℕ) → Rows (body_row FieldPlace) w → Spelled AtField w
+field_back : (w : List ℕ) → Rows (body_row FieldPlace) w → Spelled FieldPlace w
 field_back w c = let t = (row_one (Kind Reference) w).0 c in (OfField t.item, record { form = t.is; whole = t.whole })
 
 -- what may follow at the start is a signature
-pub start_is : (place : SigPlace) (w : List ℕ) → AnyRow (rows (state.Start place)) w ↔ Spelled (place_of place) w
+pub start_is : (place : SigPlace) (w : List ℕ) → AnyRow (rows (state.Start place)) w ↔ Spelled place w
 start_is ClassPlace w = and_then (one_row (parameters ∷ body_row ClassPlace) w) (λ r. class_back w r, λ s. class_to w s.0 s.1.form s.1.whole)
 start_is MethodPlace w = and_then (one_row (parameters ∷ body_row MethodPlace) w) (λ r. method_back w r, λ s. method_to w s.0 s.1.form s.1.whole)
 start_is FieldPlace w = and_then (one_row (body_row FieldPlace) w) (λ r. field_back w r, λ s. field_to w s.0 s.1.form s.1.whole)

@@ -1,18 +1,17 @@
 -- What each state of the machine stands for, and that each step keeps it.
-use Rattle.std.proofs.Common.{◌≡◌, refl, ℕ, zero, suc, ◌<◌, Bool, true, false, List, [], ◌∷◌, ◌++◌, map, Option, Some, None, arith, inl, inr}
-use Rattle.std.proofs.lemmas.Bool.{cases_lt}
-use Rattle.class_desc.specs.Signature.{AnyResult, AnyType, Reference, Thrown, ClassType}
-use Rattle.signature_scan.specs.declared.place.SigPlace.{SigPlace}
-use Rattle.signature_scan.specs.declared.place.SigPlace.TheVariants.{ClassPlace, MethodPlace, FieldPlace}
-use Rattle.signature_scan.specs.declared.part.Wanted.{Wanted}
-use Rattle.signature_scan.specs.declared.part.Wanted.TheVariants as wanted
+use Rattle.std.proofs.Common.{◌≡◌, refl, ℕ, zero, suc, ◌<◌, Bool, true, false, List, [], ◌∷◌, ◌++◌, map, Option, Some, None}
+use Rattle.lemmas.proofs.Tables.{below, same_below}
+use Rattle.java_types.specs.declared.production.Production.TheVariants.{AnyResult, AnyType, Reference, Thrown, ClassType, Element}
+use Rattle.java_types.specs.declared.production.SigPlace.{SigPlace}
+use Rattle.java_types.specs.declared.production.SigPlace.TheVariants.{ClassPlace, MethodPlace, FieldPlace}
+use Rattle.java_types.specs.declared.production.Production.{Production}
 use Rattle.signature_scan.specs.declared.part.Part.{Part}
 use Rattle.signature_scan.specs.declared.part.Part.TheVariants as part
 use Rattle.signature_scan.specs.declared.state.Around.{Around}
 use Rattle.signature_scan.specs.declared.state.Around.TheVariants as around
 use Rattle.signature_scan.specs.declared.state.State.{State}
 use Rattle.signature_scan.specs.declared.state.State.TheVariants as state
-use Rattle.signature_scan.specs.Machine.{production_of, next}
+use Rattle.signature_scan.specs.Machine.{next}
 use Rattle.signature_scan.proofs.Expressions.{Expr, Byte, NameByte, Many, Maybe, Both, Kind, Dims, names, slashes, argument, arguments, inners, class_row, variable_row, derive_all}
 
 abbrev pub bounds : Expr
@@ -48,7 +47,7 @@ beyond a (suc depth) = Many argument ∷ Byte 62 ∷ inners ∷ Byte 59 ∷ beyo
 
 -- what is left of a type
 abbrev pub part_row : Part → List Expr
-part_row (part.Type w) = Kind (production_of w) ∷ []
+part_row (part.Type w) = Kind w ∷ []
 part_row (part.Dimensions more) = Dims more ∷ []
 part_row (part.ClassName false) = class_row
 part_row (part.ClassName true) = names ∷ slashes ∷ arguments ∷ inners ∷ Byte 59 ∷ []
@@ -89,29 +88,16 @@ rows_if (Some s) = rows s
 
 -- ---- the table
 
--- the numbers below k, the greatest first
-abbrev pub below : ℕ → List ℕ
-below zero = []
-below (suc k) = k ∷ below k
-
--- two functions with the same values below k are one there
-pub same_below : {A : Type 0} (f g : ℕ → A) (k b : ℕ) → map f (below k) ≡ map g (below k) → b < k → f b ≡ g b
-same_below f g zero b e h = absurd (omega arith)
-same_below f g (suc k) b e h = elim (cases_lt b k) [
-  | inl l ↦ same_below f g k b (cc) l
-  | inr l ↦ (let q : b ≡ k = omega arith in rw q (cc))
-]
-
 abbrev Tabled : State → Type 0
 Tabled s = map (derive_all (rows s)) (below 256) ≡ map (λ b. rows_if (next s b)) (below 256)
 
-type_tabled : (w : Wanted) (a : Around) (depth : ℕ) → Tabled (state.Within (part.Type w) a depth)
-type_tabled wanted.AnyResult a depth = refl
-type_tabled wanted.AnyType a depth = refl
-type_tabled wanted.Reference a depth = refl
-type_tabled wanted.Thrown a depth = refl
-type_tabled wanted.ClassType a depth = refl
-type_tabled wanted.Element a depth = refl
+type_tabled : (w : Production) (a : Around) (depth : ℕ) → Tabled (state.Within (part.Type w) a depth)
+type_tabled AnyResult a depth = refl
+type_tabled AnyType a depth = refl
+type_tabled Reference a depth = refl
+type_tabled Thrown a depth = refl
+type_tabled ClassType a depth = refl
+type_tabled Element a depth = refl
 
 dimensions_tabled : (more : ℕ) (a : Around) (depth : ℕ) → Tabled (state.Within (part.Dimensions more) a depth)
 dimensions_tabled zero a depth = refl

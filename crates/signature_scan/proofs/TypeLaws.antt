@@ -2,15 +2,18 @@
 use Rattle.std.proofs.Common.{◌≡◌, ◌↔◌, ◌⊎◌, inl, inr, refl, sym, ap, ◌∙◌, subst, ℕ, zero, suc, ◌^◌, ◌<◌, ◌≤◌, Bool, true, ◌&&◌, ◌==◌, eqb-true, eq-eqb, List, [], ◌∷◌, ◌++◌, map, replicate, arith}
 use Rattle.std.specs.Prelude.{codes, nat_le, nat_lt}
 use Rattle.std.proofs.lemmas.Bool.{false≢true, ltb-true, leb-true, lt-ltb, le-leb}
-use Rattle.class_desc.specs.declared.types.JType.{JType, roll-JType, out-JType, roll-out-JType}
-use Rattle.class_desc.specs.declared.types.JType.TheVariants as type
-use Rattle.class_desc.specs.declared.types.JPart.{JPart}
-use Rattle.class_desc.specs.declared.types.JArg.{JArg}
-use Rattle.class_desc.specs.declared.types.JArg.TheOpen.{JType-F}
-use Rattle.class_desc.specs.Types.{type_text, part_text, parts_text}
-use Rattle.class_desc.specs.Descriptor.{is_primitive}
-use Rattle.class_desc.specs.Signature.{Production, Element, is_type, is_identifier, allows_void, allows_primitive, allows_variable, allows_array}
-use Rattle.class_desc.proofs.Layers as layers
+use Rattle.java_types.specs.declared.types.JType.{JType, roll-JType, out-JType, roll-out-JType}
+use Rattle.java_types.specs.declared.types.JType.TheVariants as type
+use Rattle.java_types.specs.declared.types.JPart.{JPart}
+use Rattle.java_types.specs.declared.types.JArg.{JArg}
+use Rattle.java_types.specs.declared.types.JArg.TheOpen.{JType-F}
+use Rattle.java_types.specs.Types.{type_text, part_text, parts_text}
+use Rattle.java_types.specs.Descriptor.{is_primitive}
+use Rattle.java_types.specs.declared.production.Production.{Production}
+use Rattle.java_types.specs.declared.production.Production.TheVariants.{Element}
+use Rattle.java_types.specs.Signature.{is_type, allows_void, allows_primitive, allows_variable, allows_array}
+use Rattle.java_names.specs.Names.{is_identifier}
+use Rattle.java_types.proofs.Layers as layers
 use Rattle.signature_scan.proofs.Conjunctions.{and_true, four_true}
 use Rattle.signature_scan.proofs.Languages.{same, and_then, turned, either, pair, Empty}
 use Rattle.signature_scan.proofs.Expressions.{Expr, Byte, NameByte, Many, Maybe, Or, Both, Kind, Dims, Words, Rows, AnyRow, IsKind, IsElement, names, slashes, arguments, inners, class_row, variable_row, only, kind_after, one_fewer, any_append, only_is, one_row, row_one, EndIs, AfterIs, parts_is, byte_after, name_byte_after, maybe_after, or_after, both_after, many_after, byte_end, name_byte_end, maybe_end, or_end, both_end, many_end, derive_all, derive_all_is}

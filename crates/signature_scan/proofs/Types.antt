@@ -3,19 +3,23 @@ use Rattle.std.proofs.Common.{◌≡◌, ◌↔◌, inl, inr, refl, sym, ap, ◌
 use Rattle.std.specs.Prelude.{codes}
 use Rattle.std.specs.List.{list_all, flat_map, concat}
 use Rattle.std.proofs.lemmas.Bool.{false≢true}
-use Rattle.class_desc.specs.declared.types.JType.{JType}
-use Rattle.class_desc.specs.declared.types.JPart.{JPart, roll-JPart, out-JPart}
-use Rattle.class_desc.specs.declared.types.JArg.{JArg, roll-JArg, out-JArg, roll-out-JArg}
-use Rattle.class_desc.specs.declared.types.JArg.TheVariants as arg
-use Rattle.class_desc.specs.declared.types.JArg.TheOpen.{JPart-F, JArg-F}
-use Rattle.class_desc.specs.Types.{type_text, part_text, arg_text, parts_text, args_text}
-use Rattle.class_desc.specs.Signature.{Reference, is_part, is_arg, are_parts, is_identifier, is_binary_name}
-use Rattle.class_desc.proofs.Layers as layers
+use Rattle.std.proofs.lemmas.List.Folds.{flat_map-map, list_all-map}
+use Rattle.lemmas.proofs.Lists.{concat-map}
+use Rattle.java_types.specs.declared.types.JType.{JType}
+use Rattle.java_types.specs.declared.types.JPart.{JPart, roll-JPart, out-JPart}
+use Rattle.java_types.specs.declared.types.JArg.{JArg, roll-JArg, out-JArg, roll-out-JArg}
+use Rattle.java_types.specs.declared.types.JArg.TheVariants as arg
+use Rattle.java_types.specs.declared.types.JArg.TheOpen.{JPart-F, JArg-F}
+use Rattle.java_types.specs.Types.{type_text, part_text, arg_text, parts_text, args_text}
+use Rattle.java_types.specs.declared.production.Production.TheVariants.{Reference}
+use Rattle.java_types.specs.Signature.{is_part, is_arg, are_parts}
+use Rattle.java_names.specs.Names.{is_identifier, is_binary_name}
+use Rattle.java_types.proofs.Layers as layers
 use Rattle.signature_scan.proofs.Conjunctions.{and_true}
 use Rattle.signature_scan.proofs.Languages.{and_then, turned, Cat, Star, stars}
 use Rattle.signature_scan.proofs.Expressions.{Expr, Byte, NameByte, Maybe, Or, Both, Words, IsTextOf, IsKind, names, argument, arguments, inners, parts_is}
 use Rattle.signature_scan.proofs.Names.{Identifier, identifier_is, BinaryName, binary_name_is}
-use Rattle.signature_scan.proofs.Items.{texts_as, list_is, behind_byte, all_map, flat_map-map, concat-map}
+use Rattle.signature_scan.proofs.Items.{texts_as, list_is, behind_byte}
 
 -- ---- type arguments
 
@@ -78,7 +82,7 @@ abbrev text_of_args : List JArg → List ℕ
 text_of_args args = args_text (map arg_text args)
 
 later_args : (w : List ℕ) → IsTextOf are_args (λ args. concat (map arg_text args)) w ↔ Star (Words argument) w
-later_args w = and_then (texts_as are_args (list_all is_arg) (λ args. concat (map arg_text args)) (flat_map arg_text) (all_map (λ a. a) is_arg) (concat-map arg_text) w) (list_is is_arg arg_text (Words argument) argument_is w)
+later_args w = and_then (texts_as are_args (list_all is_arg) (λ args. concat (map arg_text args)) (flat_map arg_text) (list_all-map (λ a. a) is_arg) (concat-map arg_text) w) (list_is is_arg arg_text (Words argument) argument_is w)
 
 args_to : (w : List ℕ) (args : List JArg) → are_args args ≡ true → w ≡ text_of_args args → Words arguments w
 args_to w [] is e = inl e
@@ -159,7 +163,7 @@ inner_text parts = flat_map (λ part. codes "." ++ part) (map part_text parts)
 inners_is : (w : List ℕ) → IsTextOf are_inner inner_text w ↔ Words inners w
 inners_is w =
     and_then (texts_as are_inner (list_all (λ part. is_part part is_identifier)) inner_text (flat_map (λ part. 46 ∷ part_text part))
-    (all_map (λ part. part is_identifier) is_part) (flat_map-map (λ part. codes "." ++ part) part_text) w)
+    (list_all-map (λ part. part is_identifier) is_part) (flat_map-map (λ part. codes "." ++ part) part_text) w)
     (and_then (list_is (λ part. is_part part is_identifier) (λ part. 46 ∷ part_text part) (Words inner)
     (behind_byte (λ part. is_part part is_identifier) part_text (Cat Identifier (Words arguments)) (part_is is_identifier Identifier identifier_is) 46) w)
     (stars inner_as w))

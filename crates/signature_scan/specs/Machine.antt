@@ -1,12 +1,13 @@
--- The machine that goes over a text byte by byte. Only contracts of private functions cite it.
-use Rattle.std.specs.Prelude.{ℕ, zero, suc, ◌==◌, Bool, true, false, not, ◌&&◌, ◌||◌, Option, Some, None, codes, nat_lt, if◌then◌else◌}
-use Rattle.class_desc.specs.Names.{is_among}
-use Rattle.class_desc.specs.Descriptor.{is_primitive}
-use Rattle.class_desc.specs.Signature.{Production, AnyResult, AnyType, Reference, Thrown, ClassType, Element, allows_void, allows_primitive, allows_variable, allows_array}
-use Rattle.signature_scan.specs.declared.place.SigPlace.{SigPlace}
-use Rattle.signature_scan.specs.declared.place.SigPlace.TheVariants.{ClassPlace, MethodPlace, FieldPlace}
-use Rattle.signature_scan.specs.declared.part.Wanted.{Wanted}
-use Rattle.signature_scan.specs.declared.part.Wanted.TheVariants as wanted
+-- The machine that goes over a text byte by byte. Contracts of private functions cite it, and `beginning` counts its steps.
+use Rattle.std.specs.Prelude.{ℕ, zero, suc, ◌==◌, Bool, true, false, not, ◌&&◌, ◌||◌, Option, Some, None, List, [], ◌∷◌, codes, nat_lt, if◌then◌else◌}
+use Rattle.java_names.specs.Names.{is_among}
+use Rattle.java_types.specs.Descriptor.{is_primitive}
+use Rattle.java_types.specs.declared.production.Production.{Production}
+use Rattle.java_types.specs.declared.production.Production.TheVariants.{AnyResult, AnyType, Reference, Thrown, ClassType, Element}
+use Rattle.java_types.specs.Signature.{allows_void, allows_primitive, allows_variable, allows_array}
+use Rattle.java_types.specs.Bytes.{class_letter, variable_letter, void_letter, bracket, less, greater, opening, closing, slash, dot, semicolon, colon, caret, plus, minus, star}
+use Rattle.java_types.specs.declared.production.SigPlace.{SigPlace}
+use Rattle.java_types.specs.declared.production.SigPlace.TheVariants.{ClassPlace, MethodPlace, FieldPlace}
 use Rattle.signature_scan.specs.declared.part.Part.{Part}
 use Rattle.signature_scan.specs.declared.part.Part.TheVariants as part
 use Rattle.signature_scan.specs.declared.state.Around.{Around}
@@ -14,25 +15,17 @@ use Rattle.signature_scan.specs.declared.state.Around.TheVariants as around
 use Rattle.signature_scan.specs.declared.state.State.{State}
 use Rattle.signature_scan.specs.declared.state.State.TheVariants as state
 
-abbrev pub production_of : Wanted → Production
-production_of wanted.AnyResult = AnyResult
-production_of wanted.AnyType = AnyType
-production_of wanted.Reference = Reference
-production_of wanted.Thrown = Thrown
-production_of wanted.ClassType = ClassType
-production_of wanted.Element = Element
-
 -- a byte that may stand in an identifier
 abbrev pub is_name_byte : ℕ → Bool
 is_name_byte b = not (is_among (codes ".;[/<>:") b)
 
-abbrev pub wants : Wanted → Around → State
+abbrev pub wants : Production → Around → State
 wants w a = state.Within (part.Type w) a 0
 
 abbrev pub body : SigPlace → State
-body ClassPlace = wants wanted.ClassType around.Supertypes
+body ClassPlace = wants ClassType around.Supertypes
 body MethodPlace = state.Parenthesis
-body FieldPlace = wants wanted.Reference around.Nothing
+body FieldPlace = wants Reference around.Nothing
 
 -- a signature there may have type parameters
 abbrev pub has_parameters : SigPlace → Bool
@@ -41,52 +34,52 @@ has_parameters MethodPlace = true
 has_parameters FieldPlace = false
 
 -- the first byte of a type
-abbrev pub type_begins : Wanted → Around → ℕ → ℕ → Option State
+abbrev pub type_begins : Production → Around → ℕ → ℕ → Option State
 type_begins w a depth b =
-    if b == 76 then Some (state.Within (part.ClassName false) a depth)
-    else (if b == 84 && allows_variable (production_of w) then Some (state.Within (part.VariableName false) a depth)
-    else (if b == 91 && allows_array (production_of w) then Some (state.Within (part.Dimensions 4294967294) a depth)
-    else (if (b == 86 && allows_void (production_of w)) || (is_primitive b && allows_primitive (production_of w)) then Some (state.Behind a depth) else None)))
+    if b == class_letter then Some (state.Within (part.ClassName false) a depth)
+    else (if b == variable_letter && allows_variable w then Some (state.Within (part.VariableName false) a depth)
+    else (if b == bracket && allows_array w then Some (state.Within (part.Dimensions 4294967294) a depth)
+    else (if (b == void_letter && allows_void w) || (is_primitive b && allows_primitive w) then Some (state.Behind a depth) else None)))
 
 abbrev pub parenthesis : ℕ → Option State
-parenthesis b = if b == 40 then Some (state.Behind around.Formals 0) else None
+parenthesis b = if b == opening then Some (state.Behind around.Formals 0) else None
 
 abbrev pub begun : SigPlace → ℕ → Option State
-begun ClassPlace b = type_begins wanted.ClassType around.Supertypes 0 b
+begun ClassPlace b = type_begins ClassType around.Supertypes 0 b
 begun MethodPlace b = parenthesis b
-begun FieldPlace b = type_begins wanted.Reference around.Nothing 0 b
+begun FieldPlace b = type_begins Reference around.Nothing 0 b
 
 abbrev pub name_goes_on : SigPlace → ℕ → Option State
 name_goes_on place b = if is_name_byte b then Some (state.ParameterName place) else None
 
 abbrev pub in_parameter_name : SigPlace → ℕ → Option State
-in_parameter_name place b = if b == 58 then Some (state.FirstBound place) else name_goes_on place b
+in_parameter_name place b = if b == colon then Some (state.FirstBound place) else name_goes_on place b
 
 abbrev pub behind_bound : SigPlace → ℕ → Option State
 behind_bound place b =
-    if b == 58 then Some (wants wanted.Reference (around.Bounds place))
-    else (if b == 62 then Some (body place) else name_goes_on place b)
+    if b == colon then Some (wants Reference (around.Bounds place))
+    else (if b == greater then Some (body place) else name_goes_on place b)
 
 abbrev pub behind_colon : SigPlace → ℕ → Option State
 behind_colon place b =
-    if b == 76 then Some (state.ClassOrName place false)
-    else (if b == 84 then Some (state.VariableOrName place false)
-    else (if b == 91 then type_begins wanted.Reference (around.Bounds place) 0 b else behind_bound place b))
+    if b == class_letter then Some (state.ClassOrName place false)
+    else (if b == variable_letter then Some (state.VariableOrName place false)
+    else (if b == bracket then type_begins Reference (around.Bounds place) 0 b else behind_bound place b))
 
 -- behind a class with its type arguments
 abbrev pub behind_name : Around → ℕ → ℕ → Option State
 behind_name a depth b =
-    if b == 46 then Some (state.Within (part.InnerName false) a depth)
-    else (if b == 59 then Some (state.Behind a depth) else None)
+    if b == dot then Some (state.Within (part.InnerName false) a depth)
+    else (if b == semicolon then Some (state.Behind a depth) else None)
 
 -- behind the name of a class
 abbrev pub behind_class_name : Around → ℕ → ℕ → Option State
-behind_class_name a depth b = if b == 60 then Some (state.Within part.Argument a (suc depth)) else behind_name a depth b
+behind_class_name a depth b = if b == less then Some (state.Within part.Argument a (suc depth)) else behind_name a depth b
 
 abbrev pub in_class_name : Bool → Around → ℕ → ℕ → Option State
 in_class_name true a depth b =
     if is_name_byte b then Some (state.Within (part.ClassName true) a depth)
-    else (if b == 47 then Some (state.Within (part.ClassName false) a depth) else behind_class_name a depth b)
+    else (if b == slash then Some (state.Within (part.ClassName false) a depth) else behind_class_name a depth b)
 in_class_name false a depth b = if is_name_byte b then Some (state.Within (part.ClassName true) a depth) else None
 
 abbrev pub in_inner_name : Bool → Around → ℕ → ℕ → Option State
@@ -96,29 +89,29 @@ in_inner_name false a depth b = if is_name_byte b then Some (state.Within (part.
 abbrev pub in_variable_name : Bool → Around → ℕ → ℕ → Option State
 in_variable_name true a depth b =
     if is_name_byte b then Some (state.Within (part.VariableName true) a depth)
-    else (if b == 59 then Some (state.Behind a depth) else None)
+    else (if b == semicolon then Some (state.Behind a depth) else None)
 in_variable_name false a depth b = if is_name_byte b then Some (state.Within (part.VariableName true) a depth) else None
 
 abbrev pub in_class_or_name : SigPlace → Bool → ℕ → Option State
 in_class_or_name place started b =
     if is_name_byte b then Some (state.ClassOrName place true)
-    else (if b == 58 then Some (state.FirstBound place) else in_class_name started (around.Bounds place) 0 b)
+    else (if b == colon then Some (state.FirstBound place) else in_class_name started (around.Bounds place) 0 b)
 
 abbrev pub in_variable_or_name : SigPlace → Bool → ℕ → Option State
 in_variable_or_name place started b =
     if is_name_byte b then Some (state.VariableOrName place true)
-    else (if b == 58 then Some (state.FirstBound place) else in_variable_name started (around.Bounds place) 0 b)
+    else (if b == colon then Some (state.FirstBound place) else in_variable_name started (around.Bounds place) 0 b)
 
 abbrev pub in_dimensions : ℕ → Around → ℕ → ℕ → Option State
-in_dimensions zero a depth b = if b == 91 then None else type_begins wanted.Element a depth b
+in_dimensions zero a depth b = if b == bracket then None else type_begins Element a depth b
 in_dimensions (suc more) a depth b =
-    if b == 91 then Some (state.Within (part.Dimensions more) a depth) else type_begins wanted.Element a depth b
+    if b == bracket then Some (state.Within (part.Dimensions more) a depth) else type_begins Element a depth b
 
 -- the first byte of a type argument
 abbrev pub argument_begins : Around → ℕ → ℕ → Option State
 argument_begins a depth b =
-    if b == 42 then Some (state.Behind a depth)
-    else (if b == 43 || b == 45 then Some (state.Within (part.Type wanted.Reference) a depth) else type_begins wanted.Reference a depth b)
+    if b == star then Some (state.Behind a depth)
+    else (if b == plus || b == minus then Some (state.Within (part.Type Reference) a depth) else type_begins Reference a depth b)
 
 abbrev pub within : Part → Around → ℕ → ℕ → Option State
 within (part.Type w) a depth b = type_begins w a depth b
@@ -130,22 +123,22 @@ within part.Argument a depth b = argument_begins a depth b
 within part.ArgumentsClosed a depth b = behind_name a depth b
 
 abbrev pub behind_formal : ℕ → Option State
-behind_formal b = if b == 41 then Some (wants wanted.AnyResult around.Throws) else type_begins wanted.AnyType around.Formals 0 b
+behind_formal b = if b == closing then Some (wants AnyResult around.Throws) else type_begins AnyType around.Formals 0 b
 
 -- behind a type that is in no type arguments
 abbrev pub behind_outermost : Around → ℕ → Option State
 behind_outermost (around.Bounds place) b = behind_bound place b
-behind_outermost around.Supertypes b = type_begins wanted.ClassType around.Supertypes 0 b
+behind_outermost around.Supertypes b = type_begins ClassType around.Supertypes 0 b
 behind_outermost around.Formals b = behind_formal b
-behind_outermost around.Throws b = if b == 94 then Some (wants wanted.Thrown around.Throws) else None
+behind_outermost around.Throws b = if b == caret then Some (wants Thrown around.Throws) else None
 behind_outermost around.Nothing b = None
 
 abbrev pub behind : Around → ℕ → ℕ → Option State
 behind a zero b = behind_outermost a b
-behind a (suc depth) b = if b == 62 then Some (state.Within part.ArgumentsClosed a depth) else argument_begins a (suc depth) b
+behind a (suc depth) b = if b == greater then Some (state.Within part.ArgumentsClosed a depth) else argument_begins a (suc depth) b
 
 abbrev pub next : State → ℕ → Option State
-next (state.Start place) b = if b == 60 && has_parameters place then Some (state.Parameter place) else begun place b
+next (state.Start place) b = if b == less && has_parameters place then Some (state.Parameter place) else begun place b
 next (state.Parameter place) b = name_goes_on place b
 next (state.ParameterName place) b = in_parameter_name place b
 next (state.FirstBound place) b = behind_colon place b
@@ -191,3 +184,14 @@ depth_of (state.Within p a depth) = depth
 abbrev pub deeper : Option ℕ → State → ℕ → Option ℕ
 deeper None s at = if nat_lt 64 (depth_of s) then Some at else None
 deeper (Some first) s at = Some first
+
+-- ---- whole texts
+
+abbrev pub one_more : Option State → (State → ℕ) → ℕ
+one_more None further = 0
+one_more (Some s) further = suc (further s)
+
+-- over how many bytes it goes
+abbrev pub goes_over : State → List ℕ → ℕ
+goes_over s [] = 0
+goes_over s (b ∷ bytes) = one_more (next s b) (λ t. goes_over t bytes)

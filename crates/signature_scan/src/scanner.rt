@@ -1,19 +1,17 @@
 ghost use Rattle.std.specs.Prelude.{◌≡◌, ◌<◌, ◌^◌, length};
 ghost use Rattle.signature_scan.specs.Machine as machine;
-ghost use Rattle.signature_scan.specs.Scanned.{Scanned, place_of};
+ghost use Rattle.signature_scan.specs.Scanned.{Scanned, verdict_of};
 
-use crate::place::SigPlace;
 use crate::state::State;
 use crate::verdict::Verdict;
-
-/// How deep type arguments may be nested.
-const NESTING_LIMIT: u32 = 64;
+use java_types::{NESTING_LIMIT, SigPlace};
 
 /// Whether the text is a signature at the place, in the grammar of JVMS 4.7.9.1. One pass over its bytes, without
 /// recursion and without memory. A number of dimensions is one of 32 bits.
 pub fn scan(text: &[u8], place: SigPlace) -> Verdict
     requires { length text.now < 2 ^ 32 }
-    ensures { Scanned (place_of place) text.now result }
+    ensures scanned { Scanned place text.now result }
+    ensures by_text { result ≡ verdict_of place text.now }
 {
     let mut state = State::Start(place);
     let mut too_deep = None;

@@ -2,8 +2,8 @@
 ghost use Rattle.std.specs.Prelude.{◌≡◌, ◌+◌, ◌<◌, ◌^◌};
 ghost use Rattle.signature_scan.specs.Machine as machine;
 
-use crate::part::{Part, Wanted, is_name_byte, is_primitive};
-use crate::place::SigPlace;
+use crate::part::{Part, is_name_byte};
+use java_types::{Production, SigPlace, is_primitive};
 
 /// What stands around a type that is in no type arguments.
 #[derive(Clone, Copy)]
@@ -57,13 +57,13 @@ impl State {
         ensures { result ≡ machine.body place }
     {
         match place {
-            SigPlace::ClassPlace => State::wants(Wanted::ClassType, Around::Supertypes),
+            SigPlace::ClassPlace => State::wants(Production::ClassType, Around::Supertypes),
             SigPlace::MethodPlace => State::Parenthesis,
-            SigPlace::FieldPlace => State::wants(Wanted::Reference, Around::Nothing),
+            SigPlace::FieldPlace => State::wants(Production::Reference, Around::Nothing),
         }
     }
 
-    fn wants(wanted: Wanted, around: Around) -> State
+    fn wants(wanted: Production, around: Around) -> State
         ensures { result ≡ machine.wants wanted around }
     {
         State::Within {
@@ -148,9 +148,9 @@ fn begun(place: SigPlace, byte: u8) -> Option<State>
     ensures { result ≡ machine.begun place byte }
 {
     match place {
-        SigPlace::ClassPlace => type_begins(Wanted::ClassType, Around::Supertypes, 0, byte),
+        SigPlace::ClassPlace => type_begins(Production::ClassType, Around::Supertypes, 0, byte),
         SigPlace::MethodPlace => parenthesis(byte),
-        SigPlace::FieldPlace => type_begins(Wanted::Reference, Around::Nothing, 0, byte),
+        SigPlace::FieldPlace => type_begins(Production::Reference, Around::Nothing, 0, byte),
     }
 }
 
@@ -200,7 +200,7 @@ fn behind_colon(place: SigPlace, byte: u8) -> Option<State>
             place,
             begun: false,
         }),
-        b'[' => type_begins(Wanted::Reference, Around::Bounds(place), 0, byte),
+        b'[' => type_begins(Production::Reference, Around::Bounds(place), 0, byte),
         _ => behind_bound(place, byte),
     }
 }
@@ -210,7 +210,7 @@ fn behind_bound(place: SigPlace, byte: u8) -> Option<State>
     ensures { result ≡ machine.behind_bound place byte }
 {
     match byte {
-        b':' => Some(State::wants(Wanted::Reference, Around::Bounds(place))),
+        b':' => Some(State::wants(Production::Reference, Around::Bounds(place))),
         b'>' => Some(State::body(place)),
         _ => name_goes_on(place, byte),
     }
@@ -241,7 +241,7 @@ fn in_variable_or_name(place: SigPlace, begun: bool, byte: u8) -> Option<State>
 }
 
 /// The first byte of a type.
-fn type_begins(wanted: Wanted, around: Around, depth: u32, byte: u8) -> Option<State>
+fn type_begins(wanted: Production, around: Around, depth: u32, byte: u8) -> Option<State>
     ensures { result ≡ machine.type_begins wanted around depth byte }
 {
     let part = if byte == b'L' {
@@ -283,7 +283,7 @@ fn in_dimensions(more: u32, around: Around, depth: u32, byte: u8) -> Option<Stat
     ensures { result ≡ machine.in_dimensions more around depth byte }
 {
     if byte != b'[' {
-        return type_begins(Wanted::Element, around, depth, byte);
+        return type_begins(Production::Element, around, depth, byte);
     }
     let part = Part::Dimensions {
         more: more.checked_sub(1)?,
@@ -386,11 +386,11 @@ fn argument_begins(around: Around, depth: u32, byte: u8) -> Option<State>
     match byte {
         b'*' => Some(State::Behind { around, depth }),
         b'+' | b'-' => Some(State::Within {
-            part: Part::Type(Wanted::Reference),
+            part: Part::Type(Production::Reference),
             around,
             depth,
         }),
-        _ => type_begins(Wanted::Reference, around, depth, byte),
+        _ => type_begins(Production::Reference, around, depth, byte),
     }
 }
 
@@ -416,11 +416,11 @@ fn behind_outermost(around: Around, byte: u8) -> Option<State>
 {
     match around {
         Around::Bounds(place) => behind_bound(place, byte),
-        Around::Supertypes => type_begins(Wanted::ClassType, around, 0, byte),
+        Around::Supertypes => type_begins(Production::ClassType, around, 0, byte),
         Around::Formals => behind_formal(byte),
         Around::Throws => {
             if byte == b'^' {
-                Some(State::wants(Wanted::Thrown, around))
+                Some(State::wants(Production::Thrown, around))
             } else {
                 None
             }
@@ -433,8 +433,8 @@ fn behind_formal(byte: u8) -> Option<State>
     ensures { result ≡ machine.behind_formal byte }
 {
     if byte == b')' {
-        Some(State::wants(Wanted::AnyResult, Around::Throws))
+        Some(State::wants(Production::AnyResult, Around::Throws))
     } else {
-        type_begins(Wanted::AnyType, Around::Formals, 0, byte)
+        type_begins(Production::AnyType, Around::Formals, 0, byte)
     }
 }

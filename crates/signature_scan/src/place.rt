@@ -1,7 +1,0 @@
-/// Where a signature stands.
-#[derive(Clone, Copy, Debug, PartialEq, Eq)]
-pub enum SigPlace {
-    ClassPlace,
-    MethodPlace,
-    FieldPlace,
-}
