@@ -2,18 +2,20 @@
 use Rattle.std.proofs.Common.{◌≡◌, refl, sym, ap, ◌∙◌, subst, ℕ, ◌+◌, ◌≤◌, ◌||◌, ◌==◌, Bool, true, false, List, [], ◌∷◌, ◌++◌, map, Ok, Err, arith, append_assoc}
 use Rattle.std.specs.Prelude.{codes}
 use Rattle.std.specs.List.{list_all, flat_map, concat}
-use Rattle.std.proofs.lemmas.Bool.{false≢true, eqb-true}
-use Rattle.class_desc.specs.declared.types.JType.{JType}
-use Rattle.class_desc.specs.declared.types.JArg.{JArg}
-use Rattle.class_desc.specs.declared.types.JArg.TheVariants as arg
-use Rattle.class_desc.specs.Types.{type_text, arg_text}
-use Rattle.class_desc.specs.Signature.{is_arg, Reference, AnyType}
-use Rattle.class_desc.specs.Nesting.{type_levels, arg_levels}
-use Rattle.class_desc.proofs.Layers.{text_exact, text_extends, text_super, text_any, form_exact, form_extends, form_super, levels_exact, levels_extends, levels_super}
+use Rattle.std.proofs.lemmas.Bool.{false≢true, eqb-true, and_parts}
+use Rattle.java_types.specs.declared.types.JType.{JType}
+use Rattle.java_types.specs.declared.types.JArg.{JArg}
+use Rattle.java_types.specs.declared.types.JArg.TheVariants as arg
+use Rattle.java_types.specs.Types.{type_text, arg_text}
+use Rattle.java_types.specs.declared.production.Production.TheVariants.{Reference, AnyType}
+use Rattle.java_types.specs.Signature.{is_arg}
+use Rattle.java_types.specs.Nesting.{type_levels, arg_levels}
+use Rattle.java_types.proofs.Layers.{text_exact, text_extends, text_super, text_any, form_exact, form_extends, form_super, levels_exact, levels_extends, levels_super}
 use Rattle.descriptor_sig.specs.declared.error.SigErr.{SigErr}
 use Rattle.descriptor_sig.specs.declared.error.SigErr.TheVariants.{Memory}
-use Rattle.descriptor_sig.specs.Standing.{Builds, Shallow, Row, RowTo, begins_with, begins_among, TypeStands, ArgsStand, ArgStands}
-use Rattle.descriptor_sig.proofs.Bytes.{both, rest_of_cons}
+use Rattle.java_types.specs.Fronts.{begins_with, begins_among}
+use Rattle.descriptor_sig.specs.Standing.{Builds, Shallow, Row, RowTo, TypeStands, ArgsStand, ArgStands}
+use Rattle.descriptor_sig.proofs.Bytes.{rest_of_cons}
 use Rattle.descriptor_sig.proofs.Cases.{ArgKind, is_exact, is_extends, is_super, is_any, arg_kind}
 use Rattle.descriptor_sig.proofs.Leading.{Leads, Splits, cons, behind}
 use Rattle.descriptor_sig.proofs.Shallows.{shallow_left, shallow_right, shallow_tail, shallow_head}
@@ -114,7 +116,7 @@ ArgsRow depth = RowTo 62 (ArgStands depth)
 args_row : (depth : ℕ) (args : List JArg) (more : List ℕ) → list_all (λ a. a) (map is_arg args) ≡ true → Shallow (flat_map (λ levels. levels depth) (map arg_levels args)) → Row (ArgStands depth) args (concat (map arg_text args) ++ more) more
 args_row depth [] more form shallow = refl
 args_row depth (a ∷ args) more form shallow =
-    let f = both (is_arg a) (list_all (λ t. t) (map is_arg args)) form in (
+    let f = and_parts (is_arg a) (list_all (λ t. t) (map is_arg args)) form in (
       concat (map arg_text args) ++ more,
       record { form = f.0; shallow = shallow_left (arg_levels a depth) (flat_map (λ l. l depth) (map arg_levels args)) shallow; whole = append_assoc (arg_text a) (concat (map arg_text args)) more },
       args_row depth args more f.1 (shallow_right (arg_levels a depth) (flat_map (λ l. l depth) (map arg_levels args)) shallow),

@@ -1,11 +1,11 @@
 -- Each type, part and argument is one of its variants.
 use Rattle.std.proofs.Common.{◌≡◌, sym, ◌∙◌, ℕ, List}
-use Rattle.class_desc.specs.declared.types.JType.{JType, out-JType, roll-JType, roll-out-JType}
-use Rattle.class_desc.specs.declared.types.JArg.{JArg, out-JArg, roll-JArg, roll-out-JArg}
-use Rattle.class_desc.specs.declared.types.JPart.{JPart}
-use Rattle.class_desc.specs.declared.types.JArg.TheOpen.{JType-F, JArg-F}
-use Rattle.class_desc.specs.declared.types.JType.TheVariants as type
-use Rattle.class_desc.specs.declared.types.JArg.TheVariants as arg
+use Rattle.java_types.specs.declared.types.JType.{JType, out-JType, roll-JType, roll-out-JType}
+use Rattle.java_types.specs.declared.types.JArg.{JArg, out-JArg, roll-JArg, roll-out-JArg}
+use Rattle.java_types.specs.declared.types.JPart.{JPart}
+use Rattle.java_types.specs.declared.types.JArg.TheOpen.{JType-F, JArg-F}
+use Rattle.java_types.specs.declared.types.JType.TheVariants as type
+use Rattle.java_types.specs.declared.types.JArg.TheVariants as arg
 
 pub data TypeKind (t : JType) : Type 0 where
   is_void : t ≡ type.Void → TypeKind t

@@ -4,7 +4,7 @@ use Rattle.std.specs.Prelude.{codes}
 use Rattle.std.specs.List.{list_all, slice_split, onto_first}
 use Rattle.std.proofs.lemmas.Bool.{eqb-true, ne_eqb, and_parts, false≢true, both_ways}
 use Rattle.std.proofs.lemmas.List.{take_at, take_all}
-use Rattle.class_desc.specs.Names.{is_among, is_unqualified, is_class_name}
+use Rattle.java_names.specs.Names.{is_among, is_unqualified, is_class_name}
 use Rattle.descriptor_sig.specs.Parts.{part_behind, NameSpells, IsRead, IsStuck, as_left}
 
 abbrev pub is_separator : ℕ → Bool
@@ -73,18 +73,6 @@ first_byte begun b bs h = by (eqb b 47) refl h
     by false e k =
         let p = and_parts (not (is_separator b)) (ends_name true bs) k in
         record { is_no_end = λ f. false≢true (subst (λ x. not (is_separator x) ≡ true) f p.0); begun = true; later = p.1 }
-
-pub names_apart : (v w : Bool) (m n x y : List ℕ) → ends_name v m ≡ true → ends_name w n ≡ true → m ++ (59 ∷ x) ≡ n ++ (59 ∷ y) → (m ≡ n) × (x ≡ y)
-names_apart v w [] [] x y hm hn e = (refl, cc)
-names_apart v w [] (b ∷ n) x y hm hn e = absurd ((first_byte w b n hn).is_no_end cc)
-names_apart v w (b ∷ m) [] x y hm hn e = absurd ((first_byte v b m hm).is_no_end cc)
-names_apart v w (b ∷ m) (c ∷ n) x y hm hn e =
-    let f = first_byte v b m hm in
-    let g = first_byte w c n hn in
-    let t : m ++ (59 ∷ x) ≡ n ++ (59 ∷ y) = cc in
-    let h : b ≡ c = cc in
-    let ih = names_apart f.begun g.begun m n x y f.later g.later t in
-    (ap (λ (z : List ℕ). b ∷ z) ih.0 ∙ ap (λ (k : ℕ). k ∷ n) h, ih.1)
 
 no_end_inside : (begun : Bool) (m w : List ℕ) → ends_name begun (m ++ (59 ∷ w)) ≡ true → ⊥
 no_end_inside begun [] w h = (first_byte begun 59 w h).is_no_end refl

@@ -6,19 +6,21 @@ use Rattle.std.proofs.lemmas.Bool.{and_parts, and_from, false≢true, cases_lt}
 use Rattle.std.proofs.lemmas.List.{take_at}
 use Rattle.std.proofs.lemmas.List.Folds.{list_all-append}
 use Rattle.std.proofs.lemmas.Grind.{flat_map-append}
-use Rattle.class_desc.specs.declared.types.JType.{JType, out-JType, roll-JType, roll-out-JType}
-use Rattle.class_desc.specs.declared.types.JType.TheVariants as type
-use Rattle.class_desc.specs.declared.types.JPart.{JPart}
-use Rattle.class_desc.specs.declared.types.JArg.{JArg}
-use Rattle.class_desc.specs.declared.types.JArg.TheOpen.{JType-F}
-use Rattle.class_desc.specs.declared.types.JSig.{JSig}
-use Rattle.class_desc.specs.declared.types.JSig.TheVariants.{OfClass, OfMethod, OfField}
-use Rattle.class_desc.specs.Types.{type_text, signature_text}
-use Rattle.class_desc.specs.Descriptor.{return_layer, is_return_type, field_layer, is_field_type, is_descriptor, DescriptorSpells}
-use Rattle.class_desc.proofs.Layers.{text_void}
+use Rattle.java_types.specs.declared.types.JType.{JType, out-JType, roll-JType, roll-out-JType}
+use Rattle.java_types.specs.declared.types.JType.TheVariants as type
+use Rattle.java_types.specs.declared.types.JPart.{JPart}
+use Rattle.java_types.specs.declared.types.JArg.{JArg}
+use Rattle.java_types.specs.declared.types.JArg.TheOpen.{JType-F}
+use Rattle.java_types.specs.declared.types.JSig.{JSig}
+use Rattle.java_types.specs.declared.types.JSig.TheVariants.{OfClass, OfMethod, OfField}
+use Rattle.java_types.specs.Types.{type_text, signature_text}
+use Rattle.java_types.specs.Descriptor.{return_layer, is_return_type, field_layer, is_field_type, is_descriptor, DescriptorSpells}
+use Rattle.java_types.proofs.Layers.{text_void}
+use Rattle.java_types.proofs.Fields.{formals_refused, formals_apart}
+use Rattle.java_types.proofs.OneDescriptor.{fields_apart, results_apart, one_descriptor}
 use Rattle.descriptor_sig.specs.Parts.{BeginsOtherwise, FieldSpells, ReturnSpells, FormalsSpell, MethodSpells, IsRead, IsStuck, as_left, IsOnly, IsStuckWhole}
-use Rattle.descriptor_sig.specs.Refusals.{IsBadText}
-use Rattle.descriptor_sig.proofs.Fields.{begins_as, fields_apart, field_begins, begins_field}
+use Rattle.java_types.specs.Spelling.{IsBadText}
+use Rattle.descriptor_sig.proofs.Fields.{begins_as, field_begins, begins_field}
 
 -- ---- the result of a method
 
@@ -47,15 +49,6 @@ void_begins t more is = ap (λ (x : JType). type_text x ++ more) is ∙ ap (λ (
 
 field_not : (b : ℕ) (t : JType) (more : List ℕ) → begins_field b ≡ false → is_field_type t ≡ true → BeginsOtherwise b (type_text t ++ more)
 field_not b t more none h later e = false≢true (sym none ∙ field_begins t b more later h e)
-
-returns_apart : (t u : JType) (x y : List ℕ) → is_return_type t ≡ true → is_return_type u ≡ true → type_text t ++ x ≡ type_text u ++ y → (t ≡ u) × (x ≡ y)
-returns_apart t u x y ht hu e = by (return_cases t ht) (return_cases u hu)
-  where
-    by : (t ≡ type.Void) ⊎ (is_field_type t ≡ true) → (u ≡ type.Void) ⊎ (is_field_type u ≡ true) → (t ≡ u) × (x ≡ y)
-    by (inl v) (inl w) = (v ∙ sym w, let f : 86 ∷ x ≡ 86 ∷ y = sym (void_begins t x v) ∙ e ∙ void_begins u y w in cc)
-    by (inl v) (inr w) = absurd (field_not 86 u y refl w x (sym e ∙ void_begins t x v))
-    by (inr v) (inl w) = absurd (field_not 86 t x refl v y (e ∙ void_begins u y w))
-    by (inr v) (inr w) = fields_apart t u x y v w e
 
 pub read_void : (text left : List ℕ) → text ≡ 86 ∷ left → IsRead ReturnSpells text left type.Void
 read_void text left e = record { front = 86 ∷ []; whole = e; spells = record { form = ap return_layer type.outs-Void; whole = sym text_void } }
@@ -99,28 +92,6 @@ formals_done formals text inner left s e = record {
   whole = s.whole ∙ ap (λ (x : List ℕ). texts formals ++ x) e ∙ sym (append_assoc (texts formals) (codes ")") left);
   spells = record { form = s.form; whole = refl };
 }
-
--- no types of parameters have a text that goes on as one after which no type and no ) can be read
-formals_refused : (formals others : List JType) (more tail : List ℕ) → list_all is_field_type formals ≡ true → list_all is_field_type others ≡ true → BeginsOtherwise 41 tail → ((t : JType) (rest : List ℕ) → is_field_type t ≡ true → type_text t ++ rest ≡ tail → ⊥) → texts others ++ (41 ∷ more) ≡ texts formals ++ tail → ⊥
-formals_refused [] [] more tail hf ho n none e = n more (sym e)
-formals_refused [] (u ∷ others) more tail hf ho n none e = none u (texts others ++ (41 ∷ more)) (and_parts (is_field_type u) (list_all is_field_type others) ho).0 (sym (append_assoc (type_text u) (texts others) (41 ∷ more)) ∙ e)
-formals_refused (t ∷ formals) [] more tail hf ho n none e = field_not 41 t (texts formals ++ tail) refl (and_parts (is_field_type t) (list_all is_field_type formals) hf).0 more (sym (e ∙ append_assoc (type_text t) (texts formals) tail))
-formals_refused (t ∷ formals) (u ∷ others) more tail hf ho n none e =
-    let f = and_parts (is_field_type t) (list_all is_field_type formals) hf in
-    let o = and_parts (is_field_type u) (list_all is_field_type others) ho in
-    let a = fields_apart u t (texts others ++ (41 ∷ more)) (texts formals ++ tail) o.0 f.0 (sym (append_assoc (type_text u) (texts others) (41 ∷ more)) ∙ e ∙ append_assoc (type_text t) (texts formals) tail) in
-    formals_refused formals others more tail f.1 o.1 n none a.1
-
-formals_apart : (formals others : List JType) (x y : List ℕ) → list_all is_field_type formals ≡ true → list_all is_field_type others ≡ true → texts formals ++ (41 ∷ x) ≡ texts others ++ (41 ∷ y) → (formals ≡ others) × (x ≡ y)
-formals_apart [] [] x y hf ho e = (refl, cc)
-formals_apart [] (u ∷ others) x y hf ho e = absurd (field_not 41 u (texts others ++ (41 ∷ y)) refl (and_parts (is_field_type u) (list_all is_field_type others) ho).0 x (sym (e ∙ append_assoc (type_text u) (texts others) (41 ∷ y))))
-formals_apart (t ∷ formals) [] x y hf ho e = absurd (field_not 41 t (texts formals ++ (41 ∷ x)) refl (and_parts (is_field_type t) (list_all is_field_type formals) hf).0 y (sym (append_assoc (type_text t) (texts formals) (41 ∷ x)) ∙ e))
-formals_apart (t ∷ formals) (u ∷ others) x y hf ho e =
-    let f = and_parts (is_field_type t) (list_all is_field_type formals) hf in
-    let o = and_parts (is_field_type u) (list_all is_field_type others) ho in
-    let a = fields_apart t u (texts formals ++ (41 ∷ x)) (texts others ++ (41 ∷ y)) f.0 o.0 (sym (append_assoc (type_text t) (texts formals) (41 ∷ x)) ∙ e ∙ append_assoc (type_text u) (texts others) (41 ∷ y)) in
-    let b = formals_apart formals others x y f.1 o.1 a.1 in
-    (ap (λ (k : JType). k ∷ formals) a.0 ∙ ap (λ (ts : List JType). u ∷ ts) b.0, b.1)
 
 pub stuck_formals : (formals : List JType) (text inner left : List ℕ) → FormalsSoFar formals text inner → BeginsOtherwise 41 inner → IsStuck FieldSpells inner left → IsStuck FormalsSpell text left
 stuck_formals formals text inner left f n s =
@@ -278,7 +249,7 @@ descriptors_apart s u p q x y hs hu e = by (descriptor_cases s p hs) (descriptor
         let t = tail_is 40 ((vf ++ type_text v.ret) ++ x) ((wf ++ type_text w.ret) ++ y) (ap (λ (z : List ℕ). z ++ x) (sym v.whole) ∙ e ∙ ap (λ (z : List ℕ). z ++ y) w.whole) in
         let a = formals_apart v.formals w.formals (type_text v.ret ++ x) (type_text w.ret ++ y) v.formals_form w.formals_form
         (sym (append_assoc (texts v.formals) (codes ")") (type_text v.ret ++ x)) ∙ sym (append_assoc vf (type_text v.ret) x) ∙ t ∙ append_assoc wf (type_text w.ret) y ∙ append_assoc (texts w.formals) (codes ")") (type_text w.ret ++ y)) in
-        let b = returns_apart v.ret w.ret x y v.ret_form w.ret_form a.1 in
+        let b = results_apart v.ret w.ret x y v.ret_form w.ret_form a.1 in
         (v.is ∙ ap (λ (fs : List JType). method_of fs v.ret) a.0 ∙ ap (method_of w.formals) b.0 ∙ sym w.is, b.1)
     by (inl v) (inr w) = absurd (field_not 40 w.t y refl w.form (((texts v.formals ++ codes ")") ++ type_text v.ret) ++ x) (ap (λ (z : List ℕ). z ++ y) (sym w.whole) ∙ sym e ∙ ap (λ (z : List ℕ). z ++ x) v.whole))
     by (inr v) (inl w) = absurd (field_not 40 v.t x refl v.form (((texts w.formals ++ codes ")") ++ type_text w.ret) ++ y) (ap (λ (z : List ℕ). z ++ x) (sym v.whole) ∙ e ∙ ap (λ (z : List ℕ). z ++ y) w.whole))
@@ -293,7 +264,7 @@ whole_read sig text left r e =
     let is : text ≡ r.front = r.whole ∙ ap (λ (x : List ℕ). r.front ++ x) e ∙ append-nil r.front in
     record {
       spells = subst (DescriptorSpells sig) (sym is) r.spells;
-      only = λ other sp. (descriptors_apart other sig text r.front [] [] sp r.spells (append-nil text ∙ is ∙ sym (append-nil r.front))).0;
+      only = λ other sp. one_descriptor text other sig sp (subst (DescriptorSpells sig) (sym is) r.spells);
     }
 
 pub whole_more : (sig : JSig) (text left : List ℕ) → IsRead DescriptorSpells text left sig → (left ≡ [] → ⊥) → IsStuckWhole text left

@@ -2,17 +2,20 @@
 use Rattle.std.proofs.Common.{◌≡◌, refl, ap, sym, subst, ◌∙◌, ℕ, ◌<◌, ◌≤◌, Bool, true, false, ◌&&◌, ◌||◌, eqb, List, [], ◌∷◌, ◌++◌, length, zero, suc, get_or, replicate, append_assoc, append-nil, length-append, arith}
 use Rattle.std.specs.Prelude.{codes, nat_le}
 use Rattle.std.proofs.lemmas.Bool.{and_parts, and_from, or_left, or_from, false≢true, leb-true, le-leb, ne_eqb}
-use Rattle.class_desc.specs.declared.types.JType.{JType, out-JType, roll-JType, roll-out-JType}
-use Rattle.class_desc.specs.declared.types.JType.TheVariants as type
-use Rattle.class_desc.specs.declared.types.JPart.{JPart, out-JPart, roll-JPart, out-roll-JPart, roll-out-JPart}
-use Rattle.class_desc.specs.declared.types.JArg.{JArg}
-use Rattle.class_desc.specs.declared.types.JArg.TheOpen.{JType-F, JPart-F}
-use Rattle.class_desc.specs.Names.{is_among, is_class_name}
-use Rattle.class_desc.specs.Types.{type_text}
-use Rattle.class_desc.specs.Descriptor.{is_primitive, has_no_args, plain_part, is_plain_class, element_layer, is_element, field_layer, is_field_type}
-use Rattle.class_desc.proofs.Layers.{text_prim, text_named, text_array, text_rolled_part}
-use Rattle.descriptor_sig.specs.Parts.{BeginsOtherwise, class_named, NameSpells, ElementSpells, FieldSpells, IsRead, IsStuck, as_left, AreAll, AreTooMany}
-use Rattle.descriptor_sig.proofs.ClassNames.{class_name_ends, names_apart}
+use Rattle.java_types.specs.declared.types.JType.{JType, out-JType, roll-JType, roll-out-JType}
+use Rattle.java_types.specs.declared.types.JType.TheVariants as type
+use Rattle.java_types.specs.declared.types.JPart.{JPart, out-JPart, roll-JPart, out-roll-JPart, roll-out-JPart}
+use Rattle.java_types.specs.declared.types.JArg.{JArg}
+use Rattle.java_types.specs.declared.types.JArg.TheOpen.{JType-F, JPart-F}
+use Rattle.java_names.specs.Names.{is_among, is_class_name}
+use Rattle.java_types.specs.Types.{type_text}
+use Rattle.java_types.specs.Descriptor.{is_primitive, class_named, has_no_args, plain_part, is_plain_class, element_layer, is_element, field_layer, is_field_type}
+use Rattle.java_types.specs.Trees.{arrayed}
+use Rattle.java_types.proofs.Fields.{arrayed_text, arrayed_form, FieldView, field_view, class_form}
+use Rattle.java_types.proofs.OneDescriptor.{text_class}
+use Rattle.java_types.proofs.Layers.{text_prim, text_named, text_array, text_rolled_part}
+use Rattle.descriptor_sig.specs.Parts.{BeginsOtherwise, NameSpells, ElementSpells, FieldSpells, IsRead, IsStuck, as_left, AreAll, AreTooMany}
+use Rattle.descriptor_sig.proofs.ClassNames.{class_name_ends}
 
 -- ---- what is left of a text begins as before
 
@@ -22,11 +25,6 @@ begins_as b [] (a ∷ left) later h more e = h left (let f : a ≡ b = cc in ap 
 begins_as b (a ∷ front) left later h more e = h (front ++ left) (let f : a ≡ b = cc in ap (λ (k : ℕ). k ∷ (front ++ left)) f)
 
 -- ---- elements
-
-pub class_text : (name : List ℕ) → type_text (class_named name) ≡ 76 ∷ (name ++ (59 ∷ []))
-class_text name =
-    let layer : JPart-F JArg JType JPart = record { name = name; args = [] } in
-    text_named (roll-JPart layer ∷ []) ∙ ap (λ (t : List ℕ). 76 ∷ ((t ++ []) ++ (59 ∷ []))) (text_rolled_part layer) ∙ simp append-nil
 
 pub data ElementView (t : JType) : Type 0 where
   primitive : (letter : ℕ) → t ≡ type.Prim letter → is_primitive letter ≡ true → type_text t ≡ letter ∷ [] → ElementView t
@@ -55,7 +53,7 @@ element_view t h = by (out-JType t) refl h
     by (JType-F.Named parts) e k =
         let v = class_view parts k in
         let is : t ≡ class_named v.0 = sym (roll-out-JType t) ∙ ap roll-JType e ∙ type.rolls-Named parts ∙ v.1 in
-        class v.0 is v.2 (ap type_text is ∙ class_text v.0)
+        class v.0 is v.2 (ap type_text is ∙ text_class v.0)
     by (JType-F.Var name) e k = absurd cc
     by (JType-F.Array element dims) e k = absurd cc
 
@@ -80,97 +78,10 @@ element_some t more h e = by (element_view t h)
     by (primitive letter is form text) = let f : letter ∷ more ≡ [] = sym (ap (λ (s : List ℕ). s ++ more) text) ∙ e in absurd cc
     by (class name is form text) = let f : 76 ∷ ((name ++ (59 ∷ [])) ++ more) ≡ [] = sym (ap (λ (s : List ℕ). s ++ more) text) ∙ e in absurd cc
 
-element_no_bracket : (t : JType) (more : List ℕ) → is_element t ≡ true → BeginsOtherwise 91 (type_text t ++ more)
-element_no_bracket t more h later e = false≢true (element_begins t 91 more later h e)
-
-pub elements_apart : (t u : JType) (x y : List ℕ) → is_element t ≡ true → is_element u ≡ true → type_text t ++ x ≡ type_text u ++ y → (t ≡ u) × (x ≡ y)
-elements_apart t u x y ht hu e = by (element_view t ht) (element_view u hu)
-  where
-    by : ElementView t → ElementView u → (t ≡ u) × (x ≡ y)
-    by (primitive k it fk tt') (primitive l iu fl tu) =
-        let f : k ∷ x ≡ l ∷ y = sym (ap (λ (s : List ℕ). s ++ x) tt') ∙ e ∙ ap (λ (s : List ℕ). s ++ y) tu in
-        let g : k ≡ l = cc in
-        (it ∙ ap type.Prim g ∙ sym iu, cc)
-    by (primitive k it fk tt') (class n iu fn tu) =
-        let f : k ∷ x ≡ 76 ∷ ((n ++ (59 ∷ [])) ++ y) = sym (ap (λ (s : List ℕ). s ++ x) tt') ∙ e ∙ ap (λ (s : List ℕ). s ++ y) tu in
-        let g : k ≡ 76 = cc in
-        absurd (false≢true (subst (λ b. is_primitive b ≡ true) g fk))
-    by (class m it fm tt') (primitive l iu fl tu) =
-        let f : 76 ∷ ((m ++ (59 ∷ [])) ++ x) ≡ l ∷ y = sym (ap (λ (s : List ℕ). s ++ x) tt') ∙ e ∙ ap (λ (s : List ℕ). s ++ y) tu in
-        let g : l ≡ 76 = cc in
-        absurd (false≢true (subst (λ b. is_primitive b ≡ true) g fl))
-    by (class m it fm tt') (class n iu fn tu) =
-        let f : 76 ∷ ((m ++ (59 ∷ [])) ++ x) ≡ 76 ∷ ((n ++ (59 ∷ [])) ++ y) = sym (ap (λ (s : List ℕ). s ++ x) tt') ∙ e ∙ ap (λ (s : List ℕ). s ++ y) tu in
-        let g : (m ++ (59 ∷ [])) ++ x ≡ (n ++ (59 ∷ [])) ++ y = cc in
-        let a = names_apart false false m n x y (sym (class_name_ends m) ∙ fm) (sym (class_name_ends n) ∙ fn) (sym (append_assoc m (59 ∷ []) x) ∙ g ∙ append_assoc n (59 ∷ []) y) in
-        (it ∙ ap class_named a.0 ∙ sym iu, a.1)
-
 -- ---- dimensions
 
-abbrev pub dimensioned : ℕ → JType → JType
-dimensioned zero element = element
-dimensioned (suc more) element = type.Array element (suc more)
-
-pub dimensioned_text : (dims : ℕ) (element : JType) → type_text (dimensioned dims element) ≡ replicate dims 91 ++ type_text element
-dimensioned_text zero element = refl
-dimensioned_text (suc more) element = text_array element (suc more)
-
-element_is_field : (layer : JType-F JArg JType JPart) → element_layer layer ≡ true → field_layer layer ≡ true
-element_is_field JType-F.Void h = h
-element_is_field (JType-F.Prim letter) h = h
-element_is_field (JType-F.Named parts) h = h
-element_is_field (JType-F.Var name) h = h
-element_is_field (JType-F.Array element dims) h = absurd cc
-
-pub dimensioned_form : (dims : ℕ) (element : JType) → dims ≤ 255 → is_element element ≡ true → is_field_type (dimensioned dims element) ≡ true
-dimensioned_form zero element few h = element_is_field (out-JType element) h
-dimensioned_form (suc more) element few h =
-    ap field_layer (type.outs-Array element (suc more)) ∙ and_from (nat_le 1 (suc more) && nat_le (suc more) 255) (is_element element) (and_from (nat_le 1 (suc more)) (nat_le (suc more) 255) (le-leb 1 (suc more) (omega arith)) (le-leb (suc more) 255 few)) h
-
-pub record FieldView (t : JType) : Type 0 where
-  pub dims : ℕ
-  pub element : JType
-  pub is : t ≡ dimensioned dims element
-  pub few : dims ≤ 255
-  pub form : is_element element ≡ true
-  pub text : type_text t ≡ replicate dims 91 ++ type_text element
-
-pub field_view : (t : JType) → is_field_type t ≡ true → FieldView t
-field_view t h = by (out-JType t) refl h
-  where
-    by : (layer : JType-F JArg JType JPart) → out-JType t ≡ layer → field_layer layer ≡ true → FieldView t
-    by JType-F.Void e k = absurd cc
-    by (JType-F.Prim letter) e k = record { dims = 0; element = t; is = refl; few = omega arith; form = ap element_layer e ∙ k; text = refl }
-    by (JType-F.Named parts) e k = record { dims = 0; element = t; is = refl; few = omega arith; form = ap element_layer e ∙ k; text = refl }
-    by (JType-F.Var name) e k = absurd cc
-    by (JType-F.Array element zero) e k = absurd (false≢true (and_parts (nat_le 1 0) (nat_le 0 255) (and_parts (nat_le 1 0 && nat_le 0 255) (is_element element) k).0).0)
-    by (JType-F.Array element (suc more)) e k =
-        let p = and_parts (nat_le 1 (suc more) && nat_le (suc more) 255) (is_element element) k in
-        let is : t ≡ type.Array element (suc more) = sym (roll-out-JType t) ∙ ap roll-JType e ∙ type.rolls-Array element (suc more) in
-        record {
-          dims = suc more;
-          element = element;
-          is = is;
-          few = leb-true (suc more) 255 (and_parts (nat_le 1 (suc more)) (nat_le (suc more) 255) p.0).1;
-          form = p.1;
-          text = ap type_text is ∙ text_array element (suc more);
-        }
-
-brackets_apart : (d k : ℕ) (t u : JType) (x y : List ℕ) → is_element t ≡ true → is_element u ≡ true → (replicate d 91 ++ type_text t) ++ x ≡ (replicate k 91 ++ type_text u) ++ y → (d ≡ k) × (t ≡ u) × (x ≡ y)
-brackets_apart zero zero t u x y ht hu e = let a = elements_apart t u x y ht hu e in (refl, a.0, a.1)
-brackets_apart zero (suc k) t u x y ht hu e = absurd (element_no_bracket t x ht _ e)
-brackets_apart (suc d) zero t u x y ht hu e = absurd (element_no_bracket u y hu _ (sym e))
-brackets_apart (suc d) (suc k) t u x y ht hu e =
-    let f : (replicate d 91 ++ type_text t) ++ x ≡ (replicate k 91 ++ type_text u) ++ y = cc in
-    let a = brackets_apart d k t u x y ht hu f in
-    (ap suc a.0, a.1, a.2)
-
-pub fields_apart : (t u : JType) (x y : List ℕ) → is_field_type t ≡ true → is_field_type u ≡ true → type_text t ++ x ≡ type_text u ++ y → (t ≡ u) × (x ≡ y)
-fields_apart t u x y ht hu e =
-    let v = field_view t ht in
-    let w = field_view u hu in
-    let a = brackets_apart v.dims w.dims v.element w.element x y v.form w.form (sym (ap (λ (s : List ℕ). s ++ x) v.text) ∙ e ∙ ap (λ (s : List ℕ). s ++ y) w.text) in
-    (v.is ∙ ap (λ d. dimensioned d v.element) a.0 ∙ ap (dimensioned w.dims) a.1 ∙ sym w.is, a.2)
+element_no_bracket : (t : JType) (more : List ℕ) → is_element t ≡ true → BeginsOtherwise 91 (type_text t ++ more)
+element_no_bracket t more h later e = false≢true (element_begins t 91 more later h e)
 
 -- the first byte of a field's type
 abbrev pub begins_field : ℕ → Bool
@@ -192,13 +103,8 @@ read_primitive letter text left e h = record {
   spells = record { form = ap element_layer (type.outs-Prim letter) ∙ h; whole = sym (text_prim letter) };
 }
 
-class_form : (name : List ℕ) → is_class_name name ≡ true → is_element (class_named name) ≡ true
-class_form name h =
-    let layer : JPart-F JArg JType JPart = record { name = name; args = [] } in
-    ap element_layer (type.outs-Named (roll-JPart layer ∷ [])) ∙ ap plain_part (out-roll-JPart layer) ∙ and_from (is_class_name name) true h refl
-
 class_spelled : (name front : List ℕ) → NameSpells name front → ElementSpells (class_named name) (76 ∷ front)
-class_spelled name front s = record { form = class_form name s.form; whole = ap (λ (t : List ℕ). 76 ∷ t) s.whole ∙ sym (class_text name) }
+class_spelled name front s = record { form = class_form name s.form; whole = ap (λ (t : List ℕ). 76 ∷ t) s.whole ∙ sym (text_class name) }
 
 pub read_class : (name text inner left : List ℕ) → text ≡ 76 ∷ inner → IsRead NameSpells inner left name → IsRead ElementSpells text left (class_named name)
 read_class name text inner left e r = record {
@@ -247,13 +153,13 @@ stuck_at text no_class no_primitive = stuck_element text (λ b later is.
 
 -- ---- reading the type of a field
 
-pub read_field : (dims : ℕ) (element : JType) (text inner left : List ℕ) → AreAll text inner dims → IsRead ElementSpells inner left element → IsRead FieldSpells text left (dimensioned dims element)
+pub read_field : (dims : ℕ) (element : JType) (text inner left : List ℕ) → AreAll text inner dims → IsRead ElementSpells inner left element → IsRead FieldSpells text left (arrayed dims element)
 read_field dims element text inner left a r = record {
   front = replicate dims 91 ++ r.front;
   whole = a.whole ∙ ap (λ (t : List ℕ). replicate dims 91 ++ t) r.whole ∙ sym (append_assoc (replicate dims 91) r.front left);
   spells = record {
-    form = dimensioned_form dims element a.few r.spells.form;
-    whole = ap (λ (t : List ℕ). replicate dims 91 ++ t) r.spells.whole ∙ sym (dimensioned_text dims element);
+    form = arrayed_form dims element a.few r.spells.form;
+    whole = ap (λ (t : List ℕ). replicate dims 91 ++ t) r.spells.whole ∙ sym (arrayed_text dims element);
   };
 }
 
@@ -273,11 +179,11 @@ stuck_dimensions text left a = record {
   front = replicate a.dims 91;
   whole = a.whole;
   begun = (
-    dimensioned a.dims (type.Prim 73),
+    arrayed a.dims (type.Prim 73),
     73 ∷ [],
     record {
-      form = dimensioned_form a.dims (type.Prim 73) (omega (arith, a.most)) (ap element_layer (type.outs-Prim 73));
-      whole = ap (λ (t : List ℕ). replicate a.dims 91 ++ t) (sym (text_prim 73)) ∙ sym (dimensioned_text a.dims (type.Prim 73));
+      form = arrayed_form a.dims (type.Prim 73) (omega (arith, a.most)) (ap element_layer (type.outs-Prim 73));
+      whole = ap (λ (t : List ℕ). replicate a.dims 91 ++ t) (sym (text_prim 73)) ∙ sym (arrayed_text a.dims (type.Prim 73));
     },
   );
   refused = λ item spelled more later sp e.
@@ -297,11 +203,11 @@ stuck_field dims text inner left a s = record {
   front = replicate dims 91 ++ s.front;
   whole = a.whole ∙ ap (λ (t : List ℕ). replicate dims 91 ++ t) s.whole ∙ sym (append_assoc (replicate dims 91) s.front left);
   begun = (
-    dimensioned dims s.begun.0,
+    arrayed dims s.begun.0,
     s.begun.1,
     record {
-      form = dimensioned_form dims s.begun.0 a.few s.begun.2.form;
-      whole = append_assoc (replicate dims 91) s.front s.begun.1 ∙ ap (λ (t : List ℕ). replicate dims 91 ++ t) s.begun.2.whole ∙ sym (dimensioned_text dims s.begun.0);
+      form = arrayed_form dims s.begun.0 a.few s.begun.2.form;
+      whole = append_assoc (replicate dims 91) s.front s.begun.1 ∙ ap (λ (t : List ℕ). replicate dims 91 ++ t) s.begun.2.whole ∙ sym (arrayed_text dims s.begun.0);
     },
   );
   refused = λ item spelled more later sp e.

@@ -2,7 +2,8 @@
 use Rattle.std.proofs.Common.{◌≡◌, refl, sym, ap, ◌∙◌, subst, ℕ, List, [], ◌∷◌, ◌++◌, Result, Ok, Err, append_assoc, append-nil, false}
 use Rattle.descriptor_sig.specs.declared.error.SigErr.{SigErr}
 use Rattle.std.proofs.lemmas.Bool.{false≢true, eq-eqb}
-use Rattle.descriptor_sig.specs.Standing.{Builds, Marked, begins_with}
+use Rattle.java_types.specs.Fronts.{begins_with}
+use Rattle.descriptor_sig.specs.Standing.{Builds, Marked}
 use Rattle.descriptor_sig.proofs.Bytes.{rest_of_cons}
 
 -- whatever stands at these bytes is rebuilt from what stands at the rest

@@ -2,22 +2,26 @@
 use Rattle.std.proofs.Common.{◌≡◌, refl, sym, ap, ◌∙◌, subst, ℕ, ◌==◌, ◌&&◌, ◌||◌, not, Bool, true, false, List, [], ◌∷◌, ◌++◌, drop, length, Option, Some, None, Ok, append_assoc, zero, suc}
 use Rattle.std.specs.Prelude.{codes}
 use Rattle.std.specs.List.{list_all, flat_map}
-use Rattle.std.proofs.lemmas.Bool.{false≢true, eqb-true, eq-eqb}
+use Rattle.std.proofs.lemmas.Bool.{false≢true, eqb-true, eq-eqb, and_parts}
 use Rattle.std.proofs.Math.Seq.{drop-append_seam}
-use Rattle.class_desc.specs.declared.types.JType.{JType}
-use Rattle.class_desc.specs.declared.types.JPart.{JPart}
-use Rattle.class_desc.specs.declared.types.JArg.{JArg}
-use Rattle.class_desc.specs.declared.types.JParam.{JParam}
-use Rattle.class_desc.specs.Names.{is_among}
-use Rattle.class_desc.specs.Types.{type_text, bound_text, param_text}
-use Rattle.class_desc.specs.Signature.{Production, AnyType, Reference, Element, is_type, are_types, allows_void, is_identifier, is_class_bound, is_param}
-use Rattle.class_desc.specs.Nesting.{top_levels, bound_levels, param_levels, flat}
-use Rattle.class_desc.proofs.Layers.{form_prim}
-use Rattle.descriptor_sig.specs.Standing.{Builds, Shallow, Row, RowTo, Marked, begins_with, begins_among, behind_name, is_before_type, is_plain_name, ends_types, NameStands, TypeStands, PartsStand, VariableStands, DimensionsStand, ArgsStand, TypesStand, MarkedStand, BoundStands, ParamStands, ParamsStand}
-use Rattle.descriptor_sig.proofs.Bytes.{both, rest_of_cons, name_place, identifier_is_plain}
+use Rattle.java_types.specs.declared.types.JType.{JType}
+use Rattle.java_types.specs.declared.types.JPart.{JPart}
+use Rattle.java_types.specs.declared.types.JArg.{JArg}
+use Rattle.java_types.specs.declared.types.JParam.{JParam}
+use Rattle.java_names.specs.Names.{is_among, is_identifier}
+use Rattle.java_types.specs.Types.{type_text, bound_text, param_text}
+use Rattle.java_types.specs.declared.production.Production.{Production}
+use Rattle.java_types.specs.declared.production.Production.TheVariants.{AnyType, Reference, Element}
+use Rattle.java_types.specs.Signature.{is_type, are_types, allows_void, is_class_bound, is_param}
+use Rattle.java_types.specs.Nesting.{top_levels, bound_levels, param_levels, flat}
+use Rattle.java_types.proofs.Layers.{form_prim}
+use Rattle.java_types.specs.Fronts.{begins_with, begins_among, behind_name, is_before_type, is_plain_name}
+use Rattle.java_types.proofs.Fronts.{identifier_is_plain, type_ahead, name_ahead, name_unlike}
+use Rattle.descriptor_sig.specs.Standing.{Builds, Shallow, Row, RowTo, Marked, ends_types, NameStands, TypeStands, PartsStand, VariableStands, DimensionsStand, ArgsStand, TypesStand, MarkedStand, BoundStands, ParamStands, ParamsStand}
+use Rattle.descriptor_sig.proofs.Bytes.{rest_of_cons}
 use Rattle.descriptor_sig.proofs.Leading.{Leads, Splits, cons, behind}
 use Rattle.descriptor_sig.proofs.Shallows.{shallow_left, shallow_right, shallow_tail}
-use Rattle.descriptor_sig.proofs.TypeSteps.{any_type, type_first, type_unlike, TypeFirst, first_is, type_splits, element_kind, ElementKind, prim_stands, named_stands, var_stands, arrayed}
+use Rattle.descriptor_sig.proofs.TypeSteps.{any_type, type_first, type_unlike, TypeFirst, first_is, type_splits, element_kind, ElementKind, prim_stands, named_stands, var_stands}
 use Rattle.descriptor_sig.proofs.PartSteps.{parts_split, part_splits}
 
 -- ---- lists of types
@@ -25,7 +29,7 @@ use Rattle.descriptor_sig.proofs.PartSteps.{parts_split, part_splits}
 pub types_row : (at : Production) → allows_void at ≡ false → (types : List JType) (more : List ℕ) → are_types at types ≡ true → Shallow (flat_map top_levels types) → Row (TypeStands AnyType 0) types (flat_map type_text types ++ more) more
 types_row at void [] more form shallow = refl
 types_row at void (t ∷ types) more form shallow =
-    let f = both (is_type t at) (are_types at types) form in (
+    let f = and_parts (is_type t at) (are_types at types) form in (
       flat_map type_text types ++ more,
       any_type at 0 t _ _ void (record { form = f.0; shallow = shallow_left (top_levels t) (flat_map top_levels types) shallow; whole = append_assoc (type_text t) (flat_map type_text types) more }),
       types_row at void types more f.1 (shallow_right (top_levels t) (flat_map top_levels types) shallow),
@@ -34,7 +38,7 @@ types_row at void (t ∷ types) more form shallow =
 pub marked_row : (mark : ℕ) (at : Production) → allows_void at ≡ false → (types : List JType) (more : List ℕ) → are_types at types ≡ true → Shallow (flat_map (λ t. 0 ∷ top_levels t) types) → Row (Marked mark (TypeStands AnyType 0)) types (flat_map (λ t. mark ∷ type_text t) types ++ more) more
 marked_row mark at void [] more form shallow = refl
 marked_row mark at void (t ∷ types) more form shallow =
-    let f = both (is_type t at) (are_types at types) form in
+    let f = and_parts (is_type t at) (are_types at types) form in
     let tail = flat_map (λ t. mark ∷ type_text t) types ++ more in
     let here : Shallow (0 ∷ top_levels t) = shallow_left (0 ∷ top_levels t) (flat_map (λ t. 0 ∷ top_levels t) types) shallow in (
       tail,
@@ -79,85 +83,11 @@ marked_end mark bytes left differs = record { gives = by } where
 
 -- ---- bounds
 
--- behind a name, the byte that ends it
-name_passed : (name more : List ℕ) → is_plain_name name ≡ true → begins_among (codes ".;[<>:") more ≡ true → behind_name (name ++ more) ≡ more
-name_passed name more plain stops = ap (λ n. drop n (name ++ more)) (name_place name more plain stops) ∙ drop-append_seam name more
-
--- whether a type is ahead, by its parts
-ahead : (x y z : Bool) → y ≡ true → z ≡ false → (x || (y && not z)) ≡ true
-ahead true y z e f = refl
-ahead false true true e f = absurd (false≢true (sym f))
-ahead false true false e f = refl
-ahead false false z e f = absurd (false≢true e)
-
-not_ahead : (x y z : Bool) → x ≡ false → z ≡ true → (x || (y && not z)) ≡ false
-not_ahead true y z e f = absurd (false≢true (sym e))
-not_ahead false true true e f = refl
-not_ahead false false true e f = refl
-not_ahead false y false e f = absurd (false≢true f)
-
-dot_or_end : (bytes : List ℕ) → begins_among (codes ".;") bytes ≡ true → begins_with 58 bytes ≡ false
-dot_or_end [] e = refl
-dot_or_end (b ∷ bytes) e = by (b == 58) refl where
-  by : (t : Bool) → (b == 58) ≡ t → t ≡ false
-  by true h = absurd (false≢true (sym (ap (is_among (codes ".;")) (eqb-true b 58 h)) ∙ e))
-  by false h = refl
-
-args_no_colon : (depth : ℕ) (args : List JArg) (bytes more : List ℕ) → ArgsStand depth args bytes more → begins_with 58 bytes ≡ false
-args_no_colon depth [] bytes more s = ap (begins_with 58) s.whole ∙ dot_or_end more s.stops
-args_no_colon depth (a ∷ args) bytes more s = ap (begins_with 58) s.whole
-
--- a type stands where a reference type does
-pub type_ahead : (t : JType) (bytes more : List ℕ) → TypeStands Reference 0 t bytes more → is_before_type bytes ≡ true
-type_ahead t bytes more s = let p = (type_splits 0 bytes).splits t more (any_type Reference 0 t bytes more refl s) in by p.0 p.1 p.2 p.3 p.4 p.5 where
-  named : (parts : List JPart) (tail : List ℕ) → bytes ≡ 76 ∷ tail → PartsStand 0 parts tail more → is_before_type bytes ≡ true
-  named parts tail f p =
-      let first = (parts_split 0 tail).splits parts more p in
-      let split = (part_splits 0 tail).splits first.0 first.2 first.4 in
-      let name = split.4 in
-      let is : bytes ≡ (76 ∷ split.0) ++ split.2 = f ∙ ap (λ b. 76 ∷ b) name.whole in
-      ap is_before_type is ∙ ahead false true (begins_with 58 (behind_name ((76 ∷ split.0) ++ split.2))) refl
-      (ap (begins_with 58) (name_passed (76 ∷ split.0) split.2 name.plain name.stops) ∙ args_no_colon 0 split.1 split.2 first.2 split.5)
-
-  variable : (name tail : List ℕ) → bytes ≡ 84 ∷ tail → VariableStands name tail more → is_before_type bytes ≡ true
-  variable name tail f v =
-      let is : bytes ≡ (84 ∷ name) ++ (59 ∷ more) = f ∙ ap (λ b. 84 ∷ b) v.whole in
-      ap is_before_type is ∙ ahead false true (begins_with 58 (behind_name ((84 ∷ name) ++ (59 ∷ more)))) refl
-      (ap (begins_with 58) (name_passed (84 ∷ name) (59 ∷ more) v.plain refl))
-
-  plain : (element : JType) (middle : List ℕ) → element ≡ t → bytes ≡ middle → ElementKind 0 element middle more → is_before_type bytes ≡ true
-  plain element middle is same (prim_stands letter e p f) = absurd (false≢true (sym (form_prim letter Reference) ∙ (ap (λ u. is_type u Reference) (sym e ∙ is) ∙ s.form)))
-  plain element middle is same (named_stands parts tail e f p) = named parts tail (same ∙ f) p
-  plain element middle is same (var_stands name tail e f v) = variable name tail (same ∙ f) v
-
-  by : (dims : ℕ) (element : JType) (middle : List ℕ) → arrayed dims element ≡ t → DimensionsStand dims bytes middle → TypeStands Element 0 element middle more → is_before_type bytes ≡ true
-  by zero element middle is d v = plain element middle is d.whole (element_kind 0 element middle more v)
-  by (suc dims) element middle is d v = ap is_before_type d.whole
-
--- the first byte of a name is none of these
-name_unlike : (x : ℕ) (name more : List ℕ) → is_among (codes ".;[/<>:") x ≡ true → is_identifier name ≡ true → begins_with x (name ++ more) ≡ false
-name_unlike x [] more among form = absurd (false≢true form)
-name_unlike x (b ∷ name) more among form = by (b == x) refl where
-  first : not (is_among (codes ".;[/<>:") b) ≡ true
-  first = (both (not (is_among (codes ".;[/<>:") b)) (list_all (λ c. not (is_among (codes ".;[/<>:") c)) name) (both (not (length (b ∷ name) == 0)) (list_all (λ c. not (is_among (codes ".;[/<>:") c)) (b ∷ name)) form).1).0
-
-  by : (t : Bool) → (b == x) ≡ t → t ≡ false
-  by true h = absurd (false≢true (sym (ap not (ap (is_among (codes ".;[/<>:")) (eqb-true b x h) ∙ among)) ∙ first))
-  by false h = refl
-
--- none stands at the name of the next parameter
-name_ahead : (name more : List ℕ) → is_identifier name ≡ true → is_before_type (name ++ (58 ∷ more)) ≡ false
-name_ahead name more form =
-    let whole = name ++ (58 ∷ more) in
-    not_ahead (begins_with 91 whole) (begins_with 76 whole || begins_with 84 whole) (begins_with 58 (behind_name whole))
-    (name_unlike 91 name (58 ∷ more) refl form)
-    (ap (begins_with 58) (name_passed name (58 ∷ more) (identifier_is_plain name form) refl))
-
 pub no_bound : (bytes : List ℕ) → is_before_type bytes ≡ false → Builds BoundStands bytes (Ok None) bytes
 no_bound bytes differs = record { gives = by } where
   by : (bound : Option JType) (more : List ℕ) → BoundStands bound bytes more → (None ≡ bound) × (bytes ≡ more)
   by None more s = (refl, s.whole)
-  by (Some t) more s = absurd (false≢true (sym differs ∙ type_ahead t bytes more (record { form = s.form; shallow = s.shallow; whole = s.whole })))
+  by (Some t) more s = absurd (false≢true (sym differs ∙ ap is_before_type s.whole ∙ type_ahead t more s.form))
 
 pub bound_leads : (bytes : List ℕ) → is_before_type bytes ≡ true → Leads Some BoundStands (TypeStands AnyType 0) bytes bytes
 bound_leads bytes there = record { leads = by } where
@@ -185,8 +115,8 @@ bounds_of class_bound interface_bounds = (class_bound, interface_bounds)
 pub param_splits : (bytes : List ℕ) → Splits param_of ParamStands NameStands (Marked 58 BoundsStand) bytes bytes
 param_splits bytes = record {
   splits = λ param more s.
-      let f = both (is_identifier param.name && is_class_bound param.class_bound) (are_types Reference param.interface_bounds) s.form in
-      let g = both (is_identifier param.name) (is_class_bound param.class_bound) f.0 in
+      let f = and_parts (is_identifier param.name && is_class_bound param.class_bound) (are_types Reference param.interface_bounds) s.form in
+      let g = and_parts (is_identifier param.name) (is_class_bound param.class_bound) f.0 in
       let bounds = bound_text param.class_bound ++ flat_map (λ bound. 58 ∷ type_text bound) param.interface_bounds in
       let whole : bytes ≡ param.name ++ (58 ∷ (bounds ++ more)) = s.whole ∙ append_assoc param.name (58 ∷ bounds) more in
       let tail : Shallow (bound_levels param.class_bound ++ flat_map (λ bound. 0 ∷ top_levels bound) param.interface_bounds) = shallow_tail 0 _ (shallow_right (flat param.name) (0 ∷ (bound_levels param.class_bound ++ flat_map (λ bound. 0 ∷ top_levels bound) param.interface_bounds)) s.shallow) in (
@@ -230,12 +160,12 @@ param_front : (param : JParam) (more : List ℕ) → param_text param ++ more �
 param_front param more = append_assoc param.name (58 ∷ (bound_text param.class_bound ++ flat_map (λ bound. 58 ∷ type_text bound) param.interface_bounds)) more
 
 param_name : (param : JParam) → is_param param ≡ true → is_identifier param.name ≡ true
-param_name param form = (both (is_identifier param.name) (is_class_bound param.class_bound) (both (is_identifier param.name && is_class_bound param.class_bound) (are_types Reference param.interface_bounds) form).0).0
+param_name param form = (and_parts (is_identifier param.name) (is_class_bound param.class_bound) (and_parts (is_identifier param.name && is_class_bound param.class_bound) (are_types Reference param.interface_bounds) form).0).0
 
 params_front : (params : List JParam) (more : List ℕ) → list_all is_param params ≡ true → (begins_with 58 (flat_map param_text params ++ (62 ∷ more)) ≡ false) × (is_before_type (flat_map param_text params ++ (62 ∷ more)) ≡ false)
 params_front [] more form = (refl, refl)
 params_front (param ∷ params) more form =
-    let name = param_name param (both (is_param param) (list_all is_param params) form).0 in
+    let name = param_name param (and_parts (is_param param) (list_all is_param params) form).0 in
     let tail = (bound_text param.class_bound ++ flat_map (λ bound. 58 ∷ type_text bound) param.interface_bounds) ++ (flat_map param_text params ++ (62 ∷ more)) in
     let whole : flat_map param_text (param ∷ params) ++ (62 ∷ more) ≡ param.name ++ (58 ∷ tail) = append_assoc (param_text param) (flat_map param_text params) (62 ∷ more) ∙ param_front param (flat_map param_text params ++ (62 ∷ more)) in
     (ap (begins_with 58) whole ∙ name_unlike 58 param.name (58 ∷ tail) refl name, ap is_before_type whole ∙ name_ahead param.name tail name)
@@ -243,7 +173,7 @@ params_front (param ∷ params) more form =
 params_row : (params : List JParam) (more : List ℕ) → list_all is_param params ≡ true → Shallow (flat_map param_levels params) → ParamsRow params (flat_map param_text params ++ (62 ∷ more)) more
 params_row [] more form shallow = refl
 params_row (param ∷ params) more form shallow =
-    let f = both (is_param param) (list_all is_param params) form in
+    let f = and_parts (is_param param) (list_all is_param params) form in
     let front = params_front params more f.1 in (
       flat_map param_text params ++ (62 ∷ more),
       record { form = f.0; shallow = shallow_left (param_levels param) (flat_map param_levels params) shallow; unmarked = front.0; stops = front.1; whole = append_assoc (param_text param) (flat_map param_text params) (62 ∷ more) },

@@ -2,15 +2,18 @@
 use Rattle.std.proofs.Common.{◌≡◌, refl, sym, ap, ◌∙◌, subst, ℕ, ◌&&◌, ◌||◌, ◌==◌, Bool, true, false, List, [], ◌∷◌, ◌++◌, map, Option, Some, None, Ok, append_assoc}
 use Rattle.std.specs.Prelude.{codes}
 use Rattle.std.specs.List.{list_all, flat_map}
-use Rattle.std.proofs.lemmas.Bool.{false≢true}
-use Rattle.class_desc.specs.declared.types.JPart.{JPart, out-JPart, roll-JPart, roll-out-JPart}
-use Rattle.class_desc.specs.declared.types.JArg.{JArg}
-use Rattle.class_desc.specs.Types.{part_text, arg_text, args_text}
-use Rattle.class_desc.specs.Signature.{is_part, is_arg, is_identifier, is_binary_name}
-use Rattle.class_desc.specs.Nesting.{part_levels, arg_levels, args_levels, flat}
-use Rattle.class_desc.proofs.Layers.{text_part, form_part, levels_part}
-use Rattle.descriptor_sig.specs.Standing.{Builds, Shallow, Row, RowTo, Marked, Takes, begins_with, begins_among, is_plain_name, NameStands, PartStands, PartsStand, ArgsStand}
-use Rattle.descriptor_sig.proofs.Bytes.{both, rest_of_cons, identifier_is_plain, binary_is_plain}
+use Rattle.std.proofs.lemmas.Bool.{false≢true, and_parts}
+use Rattle.java_types.specs.declared.types.JPart.{JPart, out-JPart, roll-JPart, roll-out-JPart}
+use Rattle.java_types.specs.declared.types.JArg.{JArg}
+use Rattle.java_types.specs.Types.{part_text, arg_text, args_text}
+use Rattle.java_types.specs.Signature.{is_part, is_arg}
+use Rattle.java_names.specs.Names.{is_identifier, is_binary_name}
+use Rattle.java_types.specs.Nesting.{part_levels, arg_levels, args_levels, flat}
+use Rattle.java_types.proofs.Layers.{text_part, form_part, levels_part}
+use Rattle.java_types.specs.Fronts.{begins_with, begins_among, is_plain_name}
+use Rattle.java_types.proofs.Fronts.{identifier_is_plain, binary_is_plain}
+use Rattle.descriptor_sig.specs.Standing.{Builds, Shallow, Row, RowTo, Marked, Takes, NameStands, PartStands, PartsStand, ArgsStand}
+use Rattle.descriptor_sig.proofs.Bytes.{rest_of_cons}
 use Rattle.descriptor_sig.proofs.Leading.{Leads, Splits, cons, behind}
 use Rattle.descriptor_sig.proofs.Shallows.{shallow_left, shallow_right, shallow_tail}
 
@@ -21,7 +24,7 @@ PartsRow depth = RowTo 59 (Marked 46 (PartStands depth))
 
 renamed : (part : JPart) (is_name : List ℕ → Bool) → ((name : List ℕ) → is_name name ≡ true → is_plain_name name ≡ true) → is_part part is_name ≡ true → is_part part is_plain_name ≡ true
 renamed part is_name h e =
-    let f = both (is_name (out-JPart part).name) (list_all (λ a. a) (map is_arg (out-JPart part).args)) (sym (form_part part is_name) ∙ e) in
+    let f = and_parts (is_name (out-JPart part).name) (list_all (λ a. a) (map is_arg (out-JPart part).args)) (sym (form_part part is_name) ∙ e) in
     form_part part is_plain_name ∙ (ap (λ t. t && list_all (λ a. a) (map is_arg (out-JPart part).args)) (h (out-JPart part).name f.0) ∙ f.1)
 
 -- the texts of the later parts of a class
@@ -35,7 +38,7 @@ later_front (part ∷ later) more = refl
 later_row : (depth : ℕ) (later : List JPart) (more : List ℕ) → list_all (λ part. part is_identifier) (map is_part later) ≡ true → Shallow (flat_map (λ levels. 0 ∷ levels depth) (map part_levels later)) → Row (Marked 46 (PartStands depth)) later (later_text later ++ (59 ∷ more)) (59 ∷ more)
 later_row depth [] more form shallow = refl
 later_row depth (part ∷ later) more form shallow =
-    let f = both (is_part part is_identifier) (list_all (λ p. p is_identifier) (map is_part later)) form in
+    let f = and_parts (is_part part is_identifier) (list_all (λ p. p is_identifier) (map is_part later)) form in
     let here : Shallow (0 ∷ part_levels part depth) = shallow_left (0 ∷ part_levels part depth) (flat_map (λ levels. 0 ∷ levels depth) (map part_levels later)) shallow in (
       later_text later ++ (59 ∷ more),
       record {
@@ -53,7 +56,7 @@ parts_split depth bytes = record { splits = by } where
   by : (parts : List JPart) (more : List ℕ) → PartsStand depth parts bytes more → (part : JPart) × (later : List JPart) × (middle : List ℕ) × (cons part later ≡ parts) × PartStands depth part bytes middle × PartsRow depth later middle more
   by [] more s = absurd (false≢true s.form)
   by (part ∷ later) more s =
-      let f = both (is_part part is_binary_name) (list_all (λ p. p is_identifier) (map is_part later)) s.form in
+      let f = and_parts (is_part part is_binary_name) (list_all (λ p. p is_identifier) (map is_part later)) s.form in
       let levels : Shallow (part_levels part depth ++ flat_map (λ l. 0 ∷ l depth) (map part_levels later)) = s.shallow in (
         part,
         later,
@@ -111,7 +114,7 @@ pub part_splits : (depth : ℕ) (bytes : List ℕ) → Splits part_of (PartStand
 part_splits depth bytes = record {
   splits = λ part more s.
       let layer = out-JPart part in
-      let f = both (is_plain_name layer.name) (list_all (λ a. a) (map is_arg layer.args)) (sym (form_part part is_plain_name) ∙ s.form) in
+      let f = and_parts (is_plain_name layer.name) (list_all (λ a. a) (map is_arg layer.args)) (sym (form_part part is_plain_name) ∙ s.form) in
       let levels : Shallow (flat layer.name ++ args_levels (map arg_levels layer.args) depth) = subst Shallow (levels_part part depth) s.shallow in (
         layer.name,
         layer.args,

@@ -1,19 +1,22 @@
 -- What stands where whole signatures are read.
 use Rattle.std.proofs.Common.{◌≡◌, ◌⊎◌, inl, inr, refl, sym, ap, ◌∙◌, subst, ℕ, ◌&&◌, true, false, List, [], ◌∷◌, ◌++◌, Option, Some, None, Ok, Err, append_assoc, append-nil}
 use Rattle.std.specs.List.{list_all, flat_map}
-use Rattle.std.proofs.lemmas.Bool.{false≢true}
-use Rattle.class_desc.specs.declared.types.JType.{JType}
-use Rattle.class_desc.specs.declared.types.JType.TheVariants as type
-use Rattle.class_desc.specs.declared.types.JParam.{JParam}
-use Rattle.class_desc.specs.declared.types.JSig.{JSig}
-use Rattle.class_desc.specs.declared.types.JSig.TheVariants.{OfClass, OfMethod, OfField}
-use Rattle.class_desc.specs.Types.{type_text, params_text}
-use Rattle.class_desc.specs.Signature.{AnyResult, AnyType, Reference, Thrown, ClassType, is_type, are_types, is_param, AtClass, AtMethod, AtField}
-use Rattle.class_desc.specs.Nesting.{top_levels, params_levels}
-use Rattle.class_desc.proofs.Layers.{text_void, form_prim, form_named, form_var, form_array}
+use Rattle.std.proofs.lemmas.Bool.{false≢true, and_parts}
+use Rattle.java_types.specs.declared.types.JType.{JType}
+use Rattle.java_types.specs.declared.types.JType.TheVariants as type
+use Rattle.java_types.specs.declared.types.JParam.{JParam}
+use Rattle.java_types.specs.declared.types.JSig.{JSig}
+use Rattle.java_types.specs.declared.types.JSig.TheVariants.{OfClass, OfMethod, OfField}
+use Rattle.java_types.specs.Types.{type_text, params_text}
+use Rattle.java_types.specs.declared.production.Production.TheVariants.{AnyResult, AnyType, Reference, Thrown, ClassType}
+use Rattle.java_types.specs.declared.production.SigPlace.TheVariants.{ClassPlace, MethodPlace, FieldPlace}
+use Rattle.java_types.specs.Signature.{is_type, are_types, is_param}
+use Rattle.java_types.specs.Nesting.{top_levels, params_levels}
+use Rattle.java_types.proofs.Layers.{text_void, form_prim, form_named, form_var, form_array}
 use Rattle.descriptor_sig.specs.declared.error.SigErr.{SigErr}
-use Rattle.descriptor_sig.specs.Standing.{Builds, Shallow, Takes, begins_with, ends_types, TypeStands, TypesStand, MarkedStand, ParamsStand, FormalsStand, SigStands}
-use Rattle.descriptor_sig.proofs.Bytes.{both, rest_of_cons}
+use Rattle.java_types.specs.Fronts.{begins_with}
+use Rattle.descriptor_sig.specs.Standing.{Builds, Shallow, Takes, ends_types, TypeStands, TypesStand, MarkedStand, ParamsStand, FormalsStand, SigStands}
+use Rattle.descriptor_sig.proofs.Bytes.{rest_of_cons}
 use Rattle.descriptor_sig.proofs.Cases.{TypeKind, is_void, is_prim, is_named, is_var, is_array, type_kind}
 use Rattle.descriptor_sig.proofs.Leading.{Leads, Splits}
 use Rattle.descriptor_sig.proofs.Shallows.{shallow_left, shallow_right, shallow_tail}
@@ -122,12 +125,12 @@ then_nothing bytes text more e end = e ∙ (sym (append-nil text) ∙ ap (λ m. 
 at_end : (more : List ℕ) → more ≡ [] → ends_types more ≡ true
 at_end more e = ap ends_types e
 
-pub class_splits : (bytes : List ℕ) → Splits class_of (SigStands AtClass) ParamsStand ClassTail bytes bytes
+pub class_splits : (bytes : List ℕ) → Splits class_of (SigStands ClassPlace) ParamsStand ClassTail bytes bytes
 class_splits bytes = record { splits = by } where
-  of_class : (params : List JParam) (super : JType) (interfaces : List JType) (more : List ℕ) → SigStands AtClass (OfClass params super interfaces) bytes more → (ps : List JParam) × (tail : JType × List JType) × (middle : List ℕ) × (class_of ps tail ≡ OfClass params super interfaces) × ParamsStand ps bytes middle × ClassTail tail middle more
+  of_class : (params : List JParam) (super : JType) (interfaces : List JType) (more : List ℕ) → SigStands ClassPlace (OfClass params super interfaces) bytes more → (ps : List JParam) × (tail : JType × List JType) × (middle : List ℕ) × (class_of ps tail ≡ OfClass params super interfaces) × ParamsStand ps bytes middle × ClassTail tail middle more
   of_class params super interfaces more s =
-      let f = both (list_all is_param params && is_type super ClassType) (are_types ClassType interfaces) s.spelled.form in
-      let g = both (list_all is_param params) (is_type super ClassType) f.0 in
+      let f = and_parts (list_all is_param params && is_type super ClassType) (are_types ClassType interfaces) s.spelled.form in
+      let g = and_parts (list_all is_param params) (is_type super ClassType) f.0 in
       let rest = type_text super ++ flat_map type_text interfaces in
       let whole : bytes ≡ params_text params ++ (rest ++ more) = then_nothing bytes (params_text params ++ rest) more s.spelled.whole s.ends ∙ append_assoc (params_text params) rest more in
       let same : rest ++ more ≡ type_text super ++ (flat_map type_text interfaces ++ more) = append_assoc (type_text super) (flat_map type_text interfaces) more in
@@ -142,7 +145,7 @@ class_splits bytes = record { splits = by } where
         record { super_form = g.1; interface_forms = f.1; shallow = tail; ends = s.ends; whole = same },
       )
 
-  by : (sig : JSig) (more : List ℕ) → SigStands AtClass sig bytes more → (ps : List JParam) × (tail : JType × List JType) × (middle : List ℕ) × (class_of ps tail ≡ sig) × ParamsStand ps bytes middle × ClassTail tail middle more
+  by : (sig : JSig) (more : List ℕ) → SigStands ClassPlace sig bytes more → (ps : List JParam) × (tail : JType × List JType) × (middle : List ℕ) × (class_of ps tail ≡ sig) × ParamsStand ps bytes middle × ClassTail tail middle more
   by (OfClass params super interfaces) more s = of_class params super interfaces more s
   by (OfMethod params formals ret throws) more s = absurd (false≢true s.spelled.form)
   by (OfField t) more s = absurd (false≢true s.spelled.form)
@@ -159,13 +162,13 @@ class_tail_splits bytes = record {
   );
 }
 
-pub method_splits : (bytes : List ℕ) → Splits method_of (SigStands AtMethod) ParamsStand MethodTail bytes bytes
+pub method_splits : (bytes : List ℕ) → Splits method_of (SigStands MethodPlace) ParamsStand MethodTail bytes bytes
 method_splits bytes = record { splits = by } where
-  of_method : (params : List JParam) (formals : List JType) (ret : JType) (throws : List JType) (more : List ℕ) → SigStands AtMethod (OfMethod params formals ret throws) bytes more → (ps : List JParam) × (tail : List JType × JType × List JType) × (middle : List ℕ) × (method_of ps tail ≡ OfMethod params formals ret throws) × ParamsStand ps bytes middle × MethodTail tail middle more
+  of_method : (params : List JParam) (formals : List JType) (ret : JType) (throws : List JType) (more : List ℕ) → SigStands MethodPlace (OfMethod params formals ret throws) bytes more → (ps : List JParam) × (tail : List JType × JType × List JType) × (middle : List ℕ) × (method_of ps tail ≡ OfMethod params formals ret throws) × ParamsStand ps bytes middle × MethodTail tail middle more
   of_method params formals ret throws more s =
-      let f = both (list_all is_param params && are_types AnyType formals && is_type ret AnyResult) (are_types Thrown throws) s.spelled.form in
-      let g = both (list_all is_param params && are_types AnyType formals) (is_type ret AnyResult) f.0 in
-      let h = both (list_all is_param params) (are_types AnyType formals) g.0 in
+      let f = and_parts (list_all is_param params && are_types AnyType formals && is_type ret AnyResult) (are_types Thrown throws) s.spelled.form in
+      let g = and_parts (list_all is_param params && are_types AnyType formals) (is_type ret AnyResult) f.0 in
+      let h = and_parts (list_all is_param params) (are_types AnyType formals) g.0 in
       let end = type_text ret ++ flat_map (λ thrown. 94 ∷ type_text thrown) throws in
       let rest = 40 ∷ (flat_map type_text formals ++ (41 ∷ end)) in
       let whole : bytes ≡ params_text params ++ (rest ++ more) = then_nothing bytes (params_text params ++ rest) more s.spelled.whole s.ends ∙ append_assoc (params_text params) rest more in
@@ -181,7 +184,7 @@ method_splits bytes = record { splits = by } where
         record { formal_forms = h.1; result_form = g.1; throws_forms = f.1; shallow = shallow_tail 0 inner (shallow_right (params_levels params) (0 ∷ inner) deep); ends = s.ends; whole = same },
       )
 
-  by : (sig : JSig) (more : List ℕ) → SigStands AtMethod sig bytes more → (ps : List JParam) × (tail : List JType × JType × List JType) × (middle : List ℕ) × (method_of ps tail ≡ sig) × ParamsStand ps bytes middle × MethodTail tail middle more
+  by : (sig : JSig) (more : List ℕ) → SigStands MethodPlace sig bytes more → (ps : List JParam) × (tail : List JType × JType × List JType) × (middle : List ℕ) × (method_of ps tail ≡ sig) × ParamsStand ps bytes middle × MethodTail tail middle more
   by (OfMethod params formals ret throws) more s = of_method params formals ret throws more s
   by (OfClass params super interfaces) more s = absurd (false≢true s.spelled.form)
   by (OfField t) more s = absurd (false≢true s.spelled.form)
@@ -213,9 +216,9 @@ method_end_splits bytes = record {
       );
 }
 
-pub field_leads : (bytes : List ℕ) → Leads OfField (SigStands AtField) (TypeStands AnyType 0) bytes bytes
+pub field_leads : (bytes : List ℕ) → Leads OfField (SigStands FieldPlace) (TypeStands AnyType 0) bytes bytes
 field_leads bytes = record { leads = by } where
-  by : (sig : JSig) (more : List ℕ) → SigStands AtField sig bytes more → (t : JType) × (OfField t ≡ sig) × TypeStands AnyType 0 t bytes more
+  by : (sig : JSig) (more : List ℕ) → SigStands FieldPlace sig bytes more → (t : JType) × (OfField t ≡ sig) × TypeStands AnyType 0 t bytes more
   by (OfField t) more s = (t, refl, any_type Reference 0 t _ _ refl (record { form = s.spelled.form; shallow = s.nested; whole = then_nothing bytes (type_text t) more s.spelled.whole s.ends }))
   by (OfClass params super interfaces) more s = absurd (false≢true s.spelled.form)
   by (OfMethod params formals ret throws) more s = absurd (false≢true s.spelled.form)

@@ -1,12 +1,12 @@
 -- What a reader tells where a part was not there.
 use Rattle.std.proofs.Common.{◌≡◌, ap, sym, subst, ◌∙◌, ℕ, ◌<◌, ◌≤◌, ◌-◌, List, ◌∷◌, length, get_or, Result, Ok, Err, arith}
-use Rattle.class_desc.specs.declared.types.JType.{JType}
-use Rattle.class_desc.specs.declared.types.JSig.{JSig}
-use Rattle.class_desc.specs.Descriptor.{DescriptorSpells}
+use Rattle.java_types.specs.declared.types.JType.{JType}
+use Rattle.java_types.specs.declared.types.JSig.{JSig}
+use Rattle.java_types.specs.Descriptor.{DescriptorSpells}
 use Rattle.descriptor_sig.specs.declared.stop.Stop.{Stop}
 use Rattle.descriptor_sig.specs.declared.stop.Stop.TheVariants.{Stuck, Memory}
 use Rattle.descriptor_sig.specs.Parts.{Parsed, ParsedWhole, DimensionsRead, IsStuck, IsStuckWhole, BeginsOtherwise, FieldSpells, ReturnSpells, MethodSpells}
-use Rattle.descriptor_sig.specs.Refusals.{IsBadText}
+use Rattle.java_types.specs.Spelling.{IsBadText}
 use Rattle.descriptor_sig.proofs.ClassNames.{tail_of, opened}
 use Rattle.descriptor_sig.proofs.Fields.{stuck_dimensions}
 use Rattle.descriptor_sig.proofs.Descriptors.{read_returned, stuck_returned, read_of_method, stuck_of_method, whole_stuck, bad_text}

@@ -1,21 +1,26 @@
 -- What stands where a type is read, from its first byte on.
 use Rattle.std.proofs.Common.{◌≡◌, ◌≢◌, refl, sym, ap, ◌∙◌, subst, ℕ, ◌<◌, ◌≤◌, ◌==◌, ◌&&◌, ◌||◌, ◌^◌, Bool, true, false, List, [], ◌∷◌, ◌++◌, map, replicate, Ok, Err, arith, append_assoc, zero, suc, lit<}
 use Rattle.std.specs.Prelude.{codes, nat_le, nat_lt}
-use Rattle.std.proofs.lemmas.Bool.{false≢true, eqb-true, ltb-true, leb-true}
-use Rattle.class_desc.specs.declared.types.JType.{JType}
-use Rattle.class_desc.specs.declared.types.JPart.{JPart}
-use Rattle.class_desc.specs.declared.types.JType.TheVariants as type
+use Rattle.std.proofs.lemmas.Bool.{false≢true, eqb-true, ltb-true, leb-true, and_parts}
+use Rattle.java_types.specs.declared.types.JType.{JType}
+use Rattle.java_types.specs.declared.types.JPart.{JPart}
+use Rattle.java_types.specs.declared.types.JType.TheVariants as type
 use Rattle.std.proofs.lemmas.List.Folds.{list_any-append}
-use Rattle.class_desc.specs.Names.{is_among}
-use Rattle.class_desc.specs.Types.{type_text, part_text, parts_text}
-use Rattle.class_desc.specs.Signature.{Production, AnyType, Reference, Element, is_type, allows_void, allows_primitive, allows_variable, allows_array, is_identifier}
-use Rattle.class_desc.specs.Descriptor.{is_primitive}
-use Rattle.class_desc.specs.Nesting.{type_levels, part_levels, parts_levels}
-use Rattle.class_desc.proofs.Layers.{text_prim, text_named, text_var, text_array, form_void, form_prim, form_named, form_var, form_array, levels_named, levels_array}
+use Rattle.java_names.specs.Names.{is_among, is_identifier}
+use Rattle.java_types.specs.Types.{type_text, part_text, parts_text}
+use Rattle.java_types.specs.declared.production.Production.{Production}
+use Rattle.java_types.specs.declared.production.Production.TheVariants.{AnyType, Reference, Element}
+use Rattle.java_types.specs.Signature.{is_type, allows_void, allows_primitive, allows_variable, allows_array}
+use Rattle.java_types.specs.Descriptor.{is_primitive}
+use Rattle.java_types.specs.Nesting.{type_levels, part_levels, parts_levels}
+use Rattle.java_types.specs.Trees.{arrayed}
+use Rattle.java_types.proofs.Layers.{text_prim, text_named, text_var, text_array, form_void, form_prim, form_named, form_var, form_array, levels_named, levels_array}
+use Rattle.java_types.proofs.Fronts.{identifier_is_plain}
 use Rattle.descriptor_sig.specs.declared.error.SigErr.{SigErr}
 use Rattle.descriptor_sig.specs.declared.error.SigErr.TheVariants.{Memory}
-use Rattle.descriptor_sig.specs.Standing.{Builds, Shallow, begins_with, begins_among, DimensionsStand, TypeStands, PartsStand, VariableStands}
-use Rattle.descriptor_sig.proofs.Bytes.{both, first_of_cons, rest_of_cons, identifier_is_plain}
+use Rattle.java_types.specs.Fronts.{begins_with, begins_among}
+use Rattle.descriptor_sig.specs.Standing.{Builds, Shallow, DimensionsStand, TypeStands, PartsStand, VariableStands}
+use Rattle.descriptor_sig.proofs.Bytes.{first_of_cons, rest_of_cons}
 use Rattle.descriptor_sig.proofs.Cases.{TypeKind, is_void, is_prim, is_named, is_var, is_array, type_kind}
 use Rattle.descriptor_sig.proofs.Leading.{Leads, Splits}
 use Rattle.descriptor_sig.proofs.Shallows.{shallow_left, shallow_right, shallow_tail}
@@ -73,10 +78,6 @@ element_front depth t bytes more s = by (element_kind depth t bytes more s) wher
 
 -- ---- dimensions and the element
 
-abbrev pub arrayed : ℕ → JType → JType
-arrayed zero element = element
-arrayed (suc dims) element = type.Array element (suc dims)
-
 pub arrayed_none : (dims : ℕ) (element : JType) → dims ≡ 0 → arrayed dims element ≡ element
 arrayed_none dims element e = ap (λ n. arrayed n element) e
 
@@ -99,8 +100,8 @@ type_splits depth bytes = record { splits = λ t more s. by_kind t more s (type_
 
   array : (element : JType) (dims : ℕ) (more : List ℕ) → TypeStands AnyType depth (type.Array element dims) bytes more → IsArrayed depth bytes (type.Array element dims) more
   array element dims more s =
-      let f = both (nat_le 1 dims && nat_lt dims (2 ^ 32)) (is_type element Element) (sym (form_array element dims AnyType) ∙ s.form) in
-      let d = both (nat_le 1 dims) (nat_lt dims (2 ^ 32)) f.0 in
+      let f = and_parts (nat_le 1 dims && nat_lt dims (2 ^ 32)) (is_type element Element) (sym (form_array element dims AnyType) ∙ s.form) in
+      let d = and_parts (nat_le 1 dims) (nat_lt dims (2 ^ 32)) f.0 in
       let levels : Shallow (replicate dims 0 ++ type_levels element depth) = subst Shallow (levels_array element dims depth) s.shallow in
       let inner : TypeStands Element depth element (type_text element ++ more) more = record { form = f.1; shallow = shallow_right (replicate dims 0) (type_levels element depth) levels; whole = refl } in (
         dims,
@@ -166,13 +167,13 @@ loosened at t void form = by (type_kind t) where
 
   by : TypeKind t → is_type t AnyType ≡ true
   by (is_void e) = absurd (false≢true (sym void ∙ (sym (form_void at) ∙ given type.Void e)))
-  by (is_prim letter e) = back (type.Prim letter) e (form_prim letter AnyType ∙ (both (allows_primitive at) (is_primitive letter) (sym (form_prim letter at) ∙ given (type.Prim letter) e)).1)
+  by (is_prim letter e) = back (type.Prim letter) e (form_prim letter AnyType ∙ (and_parts (allows_primitive at) (is_primitive letter) (sym (form_prim letter at) ∙ given (type.Prim letter) e)).1)
   by (is_named parts e) = back (type.Named parts) e (form_named parts AnyType ∙ (sym (form_named parts at) ∙ given (type.Named parts) e))
-  by (is_var name e) = back (type.Var name) e (form_var name AnyType ∙ (both (allows_variable at) (is_identifier name) (sym (form_var name at) ∙ given (type.Var name) e)).1)
+  by (is_var name e) = back (type.Var name) e (form_var name AnyType ∙ (and_parts (allows_variable at) (is_identifier name) (sym (form_var name at) ∙ given (type.Var name) e)).1)
   by (is_array element dims e) =
-      let f = both ((allows_array at && nat_le 1 dims) && nat_lt dims (2 ^ 32)) (is_type element Element) (sym (form_array element dims at) ∙ given (type.Array element dims) e) in
-      let g = both (allows_array at && nat_le 1 dims) (nat_lt dims (2 ^ 32)) f.0 in
-      let h = both (allows_array at) (nat_le 1 dims) g.0 in
+      let f = and_parts ((allows_array at && nat_le 1 dims) && nat_lt dims (2 ^ 32)) (is_type element Element) (sym (form_array element dims at) ∙ given (type.Array element dims) e) in
+      let g = and_parts (allows_array at && nat_le 1 dims) (nat_lt dims (2 ^ 32)) f.0 in
+      let h = and_parts (allows_array at) (nat_le 1 dims) g.0 in
       back (type.Array element dims) e (form_array element dims AnyType ∙ all_three (nat_le 1 dims) (nat_lt dims (2 ^ 32)) (is_type element Element) h.1 g.1 f.1)
 
 pub any_type : (at : Production) (depth : ℕ) (t : JType) (bytes more : List ℕ) → allows_void at ≡ false → TypeStands at depth t bytes more → TypeStands AnyType depth t bytes more
@@ -195,8 +196,8 @@ reference_front depth t bytes more s = by (type_kind t) where
   by (is_var name e) = ap (begins_among (76 ∷ 84 ∷ 91 ∷ [])) ((at (type.Var name) e).whole ∙ var_front name more)
   by (is_array element dims e) =
       let v = at (type.Array element dims) e in
-      let f = both (nat_le 1 dims && nat_lt dims (2 ^ 32)) (is_type element Element) (sym (form_array element dims Reference) ∙ v.form) in
-      let d = both (nat_le 1 dims) (nat_lt dims (2 ^ 32)) f.0 in
+      let f = and_parts (nat_le 1 dims && nat_lt dims (2 ^ 32)) (is_type element Element) (sym (form_array element dims Reference) ∙ v.form) in
+      let d = and_parts (nat_le 1 dims) (nat_lt dims (2 ^ 32)) f.0 in
       ap (begins_among (76 ∷ 84 ∷ 91 ∷ [])) (v.whole ∙ array_front element dims more) ∙ brackets_front dims (type_text element ++ more) (leb-true 1 dims d.0)
 
 -- ---- the first byte of any type

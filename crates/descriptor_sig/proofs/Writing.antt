@@ -5,14 +5,16 @@ use Rattle.std.specs.List.{concat, flat_map}
 use Rattle.std.proofs.lemmas.Bool.{false≢true}
 use Rattle.std.proofs.lemmas.List.{take_more}
 use Rattle.std.proofs.lemmas.List.Concat.{flat_map-append}
-use Rattle.class_desc.specs.declared.types.JType.{JType}
-use Rattle.class_desc.specs.declared.types.JPart.{JPart, out-JPart}
-use Rattle.class_desc.specs.declared.types.JArg.{JArg}
-use Rattle.class_desc.specs.declared.types.JParam.{JParam}
-use Rattle.class_desc.specs.declared.types.JType.TheVariants as type
-use Rattle.class_desc.specs.declared.types.JArg.TheVariants as arg
-use Rattle.class_desc.specs.Types.{type_text, part_text, arg_text, parts_text, args_text, param_text, params_text}
-use Rattle.class_desc.proofs.Layers.{text_void, text_prim, text_named, text_var, text_array, text_exact, text_extends, text_super, text_any, text_part}
+use Rattle.std.proofs.lemmas.List.Folds.{flat_map-map}
+use Rattle.lemmas.proofs.Lists.{concat-map}
+use Rattle.java_types.specs.declared.types.JType.{JType}
+use Rattle.java_types.specs.declared.types.JPart.{JPart, out-JPart}
+use Rattle.java_types.specs.declared.types.JArg.{JArg}
+use Rattle.java_types.specs.declared.types.JParam.{JParam}
+use Rattle.java_types.specs.declared.types.JType.TheVariants as type
+use Rattle.java_types.specs.declared.types.JArg.TheVariants as arg
+use Rattle.java_types.specs.Types.{type_text, part_text, arg_text, parts_text, args_text, param_text, params_text}
+use Rattle.java_types.proofs.Layers.{text_void, text_prim, text_named, text_var, text_array, text_exact, text_extends, text_super, text_any, text_part}
 
 -- ---- pieces, one after another
 
@@ -36,18 +38,9 @@ one_more text i xs x start before after within is so_far now = two_written start
 pub all_written : {X : Type 0} (text : X → List ℕ) (i : ℕ) (xs : List X) (start all : List ℕ) → length xs ≤ i → all ≡ start ++ flat_map text (take i xs) → all ≡ start ++ flat_map text xs
 all_written text i xs start all end so_far = so_far ∙ ap (λ items. start ++ flat_map text items) (take_all i xs end)
 
--- each item behind a mark, of items or of their texts
-marked : {X : Type 0} (mark : ℕ) (text : X → List ℕ) (xs : List X) → flat_map (λ part. mark ∷ part) (map text xs) ≡ flat_map (λ x. mark ∷ text x) xs
-marked mark text [] = refl
-marked mark text (x ∷ xs) = ap (λ r. (mark ∷ text x) ++ r) (marked mark text xs)
-
-joined : {X : Type 0} (text : X → List ℕ) (xs : List X) → concat (map text xs) ≡ flat_map text xs
-joined text [] = refl
-joined text (x ∷ xs) = ap (λ r. text x ++ r) (joined text xs)
-
 -- the parts of a class
 pub parts_written : (first : JPart) (later : List JPart) (old one all : List ℕ) → one ≡ old ++ part_text first → all ≡ one ++ flat_map (λ part. 46 ∷ part_text part) later → all ≡ old ++ parts_text (map part_text (first ∷ later))
-parts_written first later old one all e f = two_written old (part_text first) (flat_map (λ part. 46 ∷ part_text part) later) one all (parts_text (map part_text (first ∷ later))) e f (ap (λ r. part_text first ++ r) (marked 46 part_text later))
+parts_written first later old one all e f = two_written old (part_text first) (flat_map (λ part. 46 ∷ part_text part) later) one all (parts_text (map part_text (first ∷ later))) e f (ap (λ r. part_text first ++ r) (flat_map-map (λ part. 46 ∷ part) part_text later))
 
 pub part_written : (part : JPart) (old one all : List ℕ) → one ≡ old ++ (out-JPart part).name → all ≡ one ++ args_text (map arg_text (out-JPart part).args) → all ≡ old ++ part_text part
 part_written part old one all e f = two_written old (out-JPart part).name (args_text (map arg_text (out-JPart part).args)) one all (part_text part) e f (text_part part)
@@ -55,7 +48,7 @@ part_written part old one all e f = two_written old (out-JPart part).name (args_
 -- type arguments or type parameters, of which there are some
 pub args_written : (args : List JArg) (old one two all : List ℕ) → (length args == 0) ≡ false → one ≡ old ++ (60 ∷ []) → two ≡ one ++ flat_map arg_text args → all ≡ two ++ (62 ∷ []) → all ≡ old ++ args_text (map arg_text args)
 args_written [] old one two all some e f g = absurd (false≢true (sym some))
-args_written (a ∷ args) old one two all some e f g = three_written old (60 ∷ []) (flat_map arg_text (a ∷ args)) (62 ∷ []) one two all (args_text (map arg_text (a ∷ args))) e f g (ap (λ r. 60 ∷ (r ++ (62 ∷ []))) (joined arg_text (a ∷ args)))
+args_written (a ∷ args) old one two all some e f g = three_written old (60 ∷ []) (flat_map arg_text (a ∷ args)) (62 ∷ []) one two all (args_text (map arg_text (a ∷ args))) e f g (ap (λ r. 60 ∷ (r ++ (62 ∷ []))) (concat-map arg_text (a ∷ args)))
 
 pub params_written : (params : List JParam) (old one two all : List ℕ) → (length params == 0) ≡ false → one ≡ old ++ (60 ∷ []) → two ≡ one ++ flat_map param_text params → all ≡ two ++ (62 ∷ []) → all ≡ old ++ params_text params
 params_written [] old one two all some e f g = absurd (false≢true (sym some))

@@ -2,13 +2,14 @@
 -- Of an alternative it tells no more than is known from the bytes that were looked at: those in front of what is left, and the first of these.
 use Rattle.std.specs.Prelude.{◌≡◌, ℕ, ◌≤◌, Bool, true, false, ◌==◌, Option, Some, None, if◌then◌else◌, List, [], ◌∷◌, ◌++◌, replicate, codes, Result, Ok, Err}
 use Rattle.std.specs.List.{flat_map, list_all}
-use Rattle.class_desc.specs.declared.types.JType.{JType}
-use Rattle.class_desc.specs.declared.types.JType.TheVariants as type
-use Rattle.class_desc.specs.declared.types.JPart.{roll-JPart}
-use Rattle.class_desc.specs.declared.types.JSig.{JSig}
-use Rattle.class_desc.specs.Names.{is_among, is_class_name}
-use Rattle.class_desc.specs.Types.{type_text}
-use Rattle.class_desc.specs.Descriptor.{is_element, is_field_type, is_return_type, DescriptorSpells}
+use Rattle.java_types.specs.declared.types.JType.{JType}
+use Rattle.java_types.specs.declared.types.JType.TheVariants as type
+use Rattle.java_types.specs.declared.types.JPart.{roll-JPart}
+use Rattle.java_types.specs.declared.types.JSig.{JSig}
+use Rattle.java_names.specs.Names.{is_among, is_class_name}
+use Rattle.java_types.specs.Types.{type_text}
+use Rattle.java_types.specs.Bytes.{bracket, slash}
+use Rattle.java_types.specs.Descriptor.{is_element, is_field_type, is_return_type, DescriptorSpells}
 use Rattle.descriptor_sig.specs.declared.stop.Stop.{Stop}
 use Rattle.descriptor_sig.specs.declared.stop.Stop.TheVariants.{Stuck, Memory}
 
@@ -17,13 +18,9 @@ pub record Spelling {A : Type 0} (is_right : A → Bool) (text_of : A → List �
   pub form : is_right item ≡ true
   pub whole : text ≡ text_of item
 
--- the class of this name, without type arguments
-abbrev pub class_named : List ℕ → JType
-class_named name = type.Named (roll-JPart (record { name = name; args = [] }) ∷ [])
-
 -- whether a part of a class's name has begun behind a byte, from the same in front of it; none where the byte can't stand (JVMS 4.2.1)
 abbrev pub part_behind : Bool → ℕ → Option Bool
-part_behind begun b = if b == 47 then (if begun then Some false else None) else (if is_among (codes ".;[/") b then None else Some true)
+part_behind begun b = if b == slash then (if begun then Some false else None) else (if is_among (codes ".;[/") b then None else Some true)
 
 -- the name of a class, and a ; behind it
 abbrev pub NameSpells : List ℕ → List ℕ → Type 0
@@ -93,16 +90,16 @@ BeginsOtherwise b text = (later : List ℕ) → text ≡ b ∷ later → ⊥
 
 -- as many [ as a text begins with, at most 255
 pub record AreAll (text left : List ℕ) (dims : ℕ) : Type 0 where
-  pub whole : text ≡ replicate dims 91 ++ left
+  pub whole : text ≡ replicate dims bracket ++ left
   pub few : dims ≤ 255
-  pub next : BeginsOtherwise 91 left
+  pub next : BeginsOtherwise bracket left
 
 pub record AreTooMany (text left : List ℕ) : Type 0 where
   pub dims : ℕ
   pub most : dims ≡ 255
-  pub whole : text ≡ replicate dims 91 ++ left
+  pub whole : text ≡ replicate dims bracket ++ left
   pub later : List ℕ
-  pub next : left ≡ 91 ∷ later
+  pub next : left ≡ bracket ∷ later
 
 abbrev pub DimensionsRead : Result ℕ Stop → List ℕ → List ℕ → Type 0
 DimensionsRead (Ok dims) text left = AreAll text left dims

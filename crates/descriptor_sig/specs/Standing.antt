@@ -2,15 +2,20 @@
 -- Type arguments are nested no deeper than the limit.
 use Rattle.std.specs.Prelude.{◌≡◌, ℕ, ◌≤◌, ◌<◌, ◌^◌, ◌==◌, ◌&&◌, ◌||◌, not, Bool, true, false, List, [], ◌∷◌, ◌++◌, map, drop, replicate, codes, Option, Some, None, Result, Ok, Err}
 use Rattle.std.specs.List.{list_all, position_or_len}
-use Rattle.class_desc.specs.declared.types.JType.{JType}
-use Rattle.class_desc.specs.declared.types.JPart.{JPart}
-use Rattle.class_desc.specs.declared.types.JArg.{JArg}
-use Rattle.class_desc.specs.declared.types.JParam.{JParam}
-use Rattle.class_desc.specs.declared.types.JSig.{JSig}
-use Rattle.class_desc.specs.Names.{is_among}
-use Rattle.class_desc.specs.Types.{type_text, part_text, arg_text, parts_text, args_text, bound_text, param_text, params_text}
-use Rattle.class_desc.specs.Signature.{Production, AnyType, Place, is_type, is_part, is_arg, are_parts, is_param, is_class_bound, SignatureSpells}
-use Rattle.class_desc.specs.Nesting.{greatest, nesting_limit, nesting, type_levels, part_levels, arg_levels, parts_levels, args_levels, bound_levels, param_levels, params_levels}
+use Rattle.java_types.specs.declared.types.JType.{JType}
+use Rattle.java_types.specs.declared.types.JPart.{JPart}
+use Rattle.java_types.specs.declared.types.JArg.{JArg}
+use Rattle.java_types.specs.declared.types.JParam.{JParam}
+use Rattle.java_types.specs.declared.types.JSig.{JSig}
+use Rattle.java_names.specs.Names.{is_among}
+use Rattle.java_types.specs.Types.{type_text, part_text, arg_text, parts_text, args_text, bound_text, param_text, params_text}
+use Rattle.java_types.specs.Bytes.{bracket, less, opening, closing, semicolon, colon}
+use Rattle.java_types.specs.declared.production.Production.{Production}
+use Rattle.java_types.specs.declared.production.Production.TheVariants.{AnyType}
+use Rattle.java_types.specs.declared.production.SigPlace.{SigPlace}
+use Rattle.java_types.specs.Signature.{is_type, is_part, is_arg, are_parts, is_param, is_class_bound, SignatureSpells}
+use Rattle.java_types.specs.Fronts.{begins_with, begins_among, is_plain_name, is_before_type}
+use Rattle.java_types.specs.Nesting.{greatest, nesting_limit, nesting, type_levels, part_levels, arg_levels, parts_levels, args_levels, bound_levels, param_levels, params_levels}
 use Rattle.descriptor_sig.specs.declared.error.SigErr.{SigErr}
 use Rattle.descriptor_sig.specs.declared.error.SigErr.TheVariants.{Memory}
 
@@ -32,28 +37,12 @@ abbrev pub Takes : List ℕ → Option ℕ → List ℕ → Type 0
 Takes bytes (Some b) left = bytes ≡ b ∷ left
 Takes bytes None left = bytes ≡ []
 
-abbrev pub begins_with : ℕ → List ℕ → Bool
-begins_with byte [] = false
-begins_with byte (b ∷ bytes) = b == byte
-
--- whether the first byte is one of these
-abbrev pub begins_among : List ℕ → List ℕ → Bool
-begins_among these [] = false
-begins_among these (b ∷ bytes) = is_among these b
-
 -- whether a byte was passed over
 abbrev pub Passes : ℕ → List ℕ → Bool → List ℕ → Type 0
 Passes byte bytes true left = bytes ≡ byte ∷ left
 Passes byte bytes false left = (begins_with byte bytes ≡ false) × (left ≡ bytes)
 
 -- ---- names
-
--- the bytes that no name of a class with / between its identifiers has
-abbrev pub ends_name : ℕ → Bool
-ends_name b = is_among (codes ".;[<>:") b
-
-abbrev pub is_plain_name : List ℕ → Bool
-is_plain_name name = list_all (λ b. not (ends_name b)) name
 
 pub record NameStands (name bytes more : List ℕ) : Type 0 where
   pub plain : is_plain_name name ≡ true
@@ -63,15 +52,7 @@ pub record NameStands (name bytes more : List ℕ) : Type 0 where
 -- the name of a type variable, with its ;
 pub record VariableStands (name bytes more : List ℕ) : Type 0 where
   pub plain : is_plain_name name ≡ true
-  pub whole : bytes ≡ name ++ (59 ∷ more)
-
--- what is behind the name at the front
-abbrev pub behind_name : List ℕ → List ℕ
-behind_name bytes = drop (position_or_len ends_name bytes) bytes
-
--- whether a type stands behind the : of a type parameter: a class or a type variable, unless it is the name of the next type parameter, or an array
-abbrev pub is_before_type : List ℕ → Bool
-is_before_type bytes = begins_with 91 bytes || ((begins_with 76 bytes || begins_with 84 bytes) && not (begins_with 58 (behind_name bytes)))
+  pub whole : bytes ≡ name ++ (semicolon ∷ more)
 
 -- ---- types
 
@@ -81,8 +62,8 @@ Shallow levels = greatest levels ≤ nesting_limit
 
 pub record DimensionsStand (dims : ℕ) (bytes more : List ℕ) : Type 0 where
   pub few : dims < 2 ^ 32
-  pub stops : begins_with 91 more ≡ false
-  pub whole : bytes ≡ replicate dims 91 ++ more
+  pub stops : begins_with bracket more ≡ false
+  pub whole : bytes ≡ replicate dims bracket ++ more
 
 pub record TypeStands (at : Production) (depth : ℕ) (type : JType) (bytes more : List ℕ) : Type 0 where
   pub form : is_type type at ≡ true
@@ -100,7 +81,7 @@ pub record PartStands (depth : ℕ) (part : JPart) (bytes more : List ℕ) : Typ
 pub record PartsStand (depth : ℕ) (parts : List JPart) (bytes more : List ℕ) : Type 0 where
   pub form : are_parts (map is_part parts) ≡ true
   pub shallow : Shallow (parts_levels (map part_levels parts) depth)
-  pub whole : bytes ≡ parts_text (map part_text parts) ++ (59 ∷ more)
+  pub whole : bytes ≡ parts_text (map part_text parts) ++ (semicolon ∷ more)
 
 pub record ArgsStand (depth : ℕ) (args : List JArg) (bytes more : List ℕ) : Type 0 where
   pub form : list_all (λ arg. arg) (map is_arg args) ≡ true
@@ -132,7 +113,7 @@ pub record Marked {T : Type 0} (mark : ℕ) (Stands : T → List ℕ → List �
 -- types, before the end or a )
 abbrev pub ends_types : List ℕ → Bool
 ends_types [] = true
-ends_types (b ∷ bytes) = b == 41
+ends_types (b ∷ bytes) = b == closing
 
 pub record TypesStand (types : List JType) (bytes more : List ℕ) : Type 0 where
   pub row : Row (TypeStands AnyType 0) types bytes more
@@ -156,14 +137,14 @@ pub record BoundStands (bound : Option JType) (bytes more : List ℕ) : Type 0 w
 pub record ParamStands (param : JParam) (bytes more : List ℕ) : Type 0 where
   pub form : is_param param ≡ true
   pub shallow : Shallow (param_levels param)
-  pub unmarked : begins_with 58 more ≡ false
+  pub unmarked : begins_with colon more ≡ false
   pub stops : is_before_type more ≡ false
   pub whole : bytes ≡ param_text param ++ more
 
 pub record ParamsStand (params : List JParam) (bytes more : List ℕ) : Type 0 where
   pub form : list_all is_param params ≡ true
   pub shallow : Shallow (params_levels params)
-  pub stops : begins_with 60 more ≡ false
+  pub stops : begins_with less more ≡ false
   pub whole : bytes ≡ params_text params ++ more
 
 -- ---- signatures
@@ -171,11 +152,11 @@ pub record ParamsStand (params : List JParam) (bytes more : List ℕ) : Type 0 w
 -- the types of a method's parameters, between ( and )
 pub record FormalsStand (formals : List JType) (bytes more : List ℕ) : Type 0 where
   pub behind : List ℕ
-  pub front : bytes ≡ 40 ∷ behind
-  pub types : TypesStand formals behind (41 ∷ more)
+  pub front : bytes ≡ opening ∷ behind
+  pub types : TypesStand formals behind (closing ∷ more)
 
 -- a whole signature
-pub record SigStands (place : Place) (sig : JSig) (bytes more : List ℕ) : Type 0 where
+pub record SigStands (place : SigPlace) (sig : JSig) (bytes more : List ℕ) : Type 0 where
   pub spelled : SignatureSpells place sig bytes
   pub nested : nesting sig ≤ nesting_limit
   pub ends : more ≡ []

@@ -1,27 +1,24 @@
 ghost use Rattle.std.specs.Prelude.{◌≡◌, length, IfOk};
-ghost use Rattle.class_desc.specs.Descriptor.{is_primitive as is_primitive_letter, DescriptorSpells};
-ghost use Rattle.descriptor_sig.specs.Parts.{Parsed, ParsedWhole, DimensionsRead, NameSpells, ElementSpells, FieldSpells, ReturnSpells, FormalsSpell, MethodSpells, part_behind, class_named};
+ghost use Rattle.java_types.specs.Descriptor.{DescriptorSpells, class_named};
+ghost use Rattle.descriptor_sig.specs.Parts.{Parsed, ParsedWhole, DimensionsRead, NameSpells, ElementSpells, FieldSpells, ReturnSpells, FormalsSpell, MethodSpells, part_behind};
 
 use crate::stop::Stop;
-use class_desc::{JPart, JSig, JType};
 use hdr_core::{List, Memory, Text};
+use java_types::{JPart, JSig, JType, MOST_DIMENSIONS, is_primitive};
 use sqlite_items::Boxed;
 use std::alloc::Global;
 
-/// The most dimensions of an array in a descriptor (JVMS 4.3.2).
-const MOST_DIMENSIONS: u32 = 255;
-
 /// What is left to read of a descriptor (JVMS 4.3).
 #[derive(Drop)]
-pub struct Reader<'a> {
+pub struct DescriptorReader<'a> {
     rest: &'a [u8],
 }
 
-impl<'a> Reader<'a> {
-    pub fn of(text: &'a [u8]) -> Reader<'a>
+impl<'a> DescriptorReader<'a> {
+    pub fn of(text: &'a [u8]) -> DescriptorReader<'a>
         ensures { result.rest.now ≡ text.now }
     {
-        Reader { rest: text }
+        DescriptorReader { rest: text }
     }
 
     /// How many bytes are left.
@@ -157,15 +154,6 @@ impl<'a> Reader<'a> {
         }
         Err(Stop::Stuck)
     }
-}
-
-fn is_primitive(letter: u8) -> bool
-    ensures { result ≡ is_primitive_letter letter }
-{
-    matches!(
-        letter,
-        b'B' | b'C' | b'D' | b'F' | b'I' | b'J' | b'S' | b'Z'
-    )
 }
 
 /// Whether a part of a class's name has begun behind the byte, from the same in front of it. None where the byte can't stand.

@@ -1,18 +1,22 @@
-ghost use Rattle.std.specs.Prelude.{◌≡◌, ◌<◌, ◌≤◌, ◌^◌, ℕ, length, IfOk, OnOk, Ok, Err};
-ghost use Rattle.class_desc.specs.declared.types.JSig.{JSig};
-ghost use Rattle.class_desc.specs.Signature.{AnyResult, AtClass, AtMethod, AtField, SignatureSpells};
-ghost use Rattle.signature_scan.specs.Scanned.{place_of, IsFine, IsBad, IsTooDeep};
+ghost use Rattle.std.specs.Prelude.{◌≡◌, ◌<◌, ◌≤◌, ◌^◌, ℕ, length, IfOk, OnOk, Ok, Err, Some};
+ghost use Rattle.java_types.specs.declared.types.JSig.{JSig};
+ghost use Rattle.java_types.specs.declared.production.Production.TheVariants.{AnyResult};
+ghost use Rattle.java_types.specs.declared.production.SigPlace.TheVariants.{ClassPlace, MethodPlace, FieldPlace};
+ghost use Rattle.java_types.specs.Signature.{SignatureSpells};
+ghost use Rattle.signature_scan.specs.Scanned.{IsFine, IsTooDeep};
+ghost use Rattle.java_types.specs.Spelling.{IsBadText};
+ghost use Rattle.java_types.specs.Trees.{signature_of};
 ghost use Rattle.descriptor_sig.specs.Built.{IsBuilt};
 ghost use Rattle.descriptor_sig.specs.Standing.{Builds, TypeStands, TypesStand, MarkedStand, BoundStands, ParamStands, ParamsStand, FormalsStand, SigStands};
 
-use crate::builder::{Builder, UNMET};
 use crate::error::SigErr;
-use class_desc::{JParam, JSig, JType};
+use crate::signature_reader::{SignatureReader, UNMET};
 use hdr_core::{List, Text};
+use java_types::{JParam, JSig, JType};
 use signature_scan::{SigPlace, Verdict, scan};
 use std::alloc::Global;
 
-impl<'a> Builder<'a> {
+impl<'a> SignatureReader<'a> {
     /// Types, up to the end or a `)`.
     fn types(&mut self, alloc: Global) -> Result<List<JType>, SigErr>
         ensures { Builds TypesStand self.old result self.new }
@@ -98,7 +102,7 @@ impl<'a> Builder<'a> {
     }
 
     pub fn class_signature(&mut self, alloc: Global) -> Result<JSig, SigErr>
-        ensures { Builds (SigStands AtClass) self.old result self.new }
+        ensures { Builds (SigStands ClassPlace) self.old result self.new }
     {
         let params = self.parameters(alloc)?;
         let super_type = self.java_type(alloc, 0)?;
@@ -111,7 +115,7 @@ impl<'a> Builder<'a> {
     }
 
     pub fn method_signature(&mut self, alloc: Global) -> Result<JSig, SigErr>
-        ensures { Builds (SigStands AtMethod) self.old result self.new }
+        ensures { Builds (SigStands MethodPlace) self.old result self.new }
     {
         let params = self.parameters(alloc)?;
         let formals = self.formals(alloc)?;
@@ -126,7 +130,7 @@ impl<'a> Builder<'a> {
     }
 
     pub fn field_signature(&mut self, alloc: Global) -> Result<JSig, SigErr>
-        ensures { Builds (SigStands AtField) self.old result self.new }
+        ensures { Builds (SigStands FieldPlace) self.old result self.new }
     {
         Ok(JSig::OfField(self.java_type(alloc, 0)?))
     }
@@ -134,13 +138,13 @@ impl<'a> Builder<'a> {
 
 /// Builds the signature that the text is known to spell, with type arguments nested at most 64 deep.
 fn build(alloc: Global, text: &[u8], place: SigPlace) -> Result<JSig, SigErr>
-    ensures { IsBuilt (place_of place) text.now result }
+    ensures { IsBuilt place text.now result }
 {
-    let mut builder = Builder::of(text);
+    let mut reader = SignatureReader::of(text);
     match place {
-        SigPlace::ClassPlace => builder.class_signature(alloc),
-        SigPlace::MethodPlace => builder.method_signature(alloc),
-        SigPlace::FieldPlace => builder.field_signature(alloc),
+        SigPlace::ClassPlace => reader.class_signature(alloc),
+        SigPlace::MethodPlace => reader.method_signature(alloc),
+        SigPlace::FieldPlace => reader.field_signature(alloc),
     }
 }
 
@@ -149,14 +153,15 @@ fn build(alloc: Global, text: &[u8], place: SigPlace) -> Result<JSig, SigErr>
 /// `BadText` comes just where the text spells no signature at this place, `TooDeep` just where it spells one that is nested deeper.
 pub fn read_signature(alloc: Global, text: &Text, place: SigPlace) -> Result<JSig, SigErr>
     requires { length text.now < 2 ^ 32 }
-    ensures spelled { IfOk result (λ sig. IsFine (place_of place) text.now sig) }
+    ensures spelled { IfOk result (λ sig. IsFine place text.now sig) }
     // No other signature has this text.
     ensures only { IfOk result
-        (λ sig. (other : JSig) → SignatureSpells (place_of place) other text.now → other ≡ sig) }
-    ensures bad { (at : ℕ) → result ≡ Err (SigErr.BadText at) → IsBad (place_of place) text.now at }
+        (λ sig. (other : JSig) → SignatureSpells place other text.now → other ≡ sig) }
+    ensures by_text { IfOk result (λ sig. signature_of place text.now ≡ Some sig) }
+    ensures bad { (at : ℕ) → result ≡ Err (SigErr.BadText at) → IsBadText (SignatureSpells place) text.now at }
     ensures deep { (at : ℕ)
         → result ≡ Err (SigErr.TooDeep at)
-        → (sig : JSig) × IsTooDeep (place_of place) text.now at sig }
+        → (sig : JSig) × IsTooDeep place text.now at sig }
 {
     let bytes = text.bytes();
     match scan(bytes, place) {

@@ -1,17 +1,18 @@
 ghost use Rattle.std.specs.Prelude.{◌≡◌, ℕ, ◌∷◌, [], ◌++◌, IfOk, OnOk, codes, map, replicate};
 ghost use Rattle.std.specs.List.{concat, flat_map};
-ghost use Rattle.class_desc.specs.Types.{type_text, part_text, arg_text, parts_text, args_text, bound_text, param_text, params_text, signature_text};
-ghost use Rattle.class_desc.specs.Signature.{Place, IsSignature, SignatureSpells};
-ghost use Rattle.class_desc.specs.Descriptor.{IsDescriptor, DescriptorSpells};
+ghost use Rattle.java_types.specs.Types.{type_text, part_text, arg_text, parts_text, args_text, bound_text, param_text, params_text, signature_text};
+ghost use Rattle.java_types.specs.declared.production.SigPlace.{SigPlace};
+ghost use Rattle.java_types.specs.Signature.{IsSignature, SignatureSpells};
+ghost use Rattle.java_types.specs.Descriptor.{IsDescriptor, DescriptorSpells};
 
-use class_desc::{JArg, JParam, JPart, JSig, JType};
 use hdr_core::{Memory, Text};
+use java_types::{JArg, JParam, JPart, JSig, JType};
 use std::alloc::Global;
 
 /// The text of a descriptor or a signature (JVMS 4.3, 4.7.9.1). Every value has one, a right one or not.
 pub fn write_signature(alloc: Global, sig: &JSig) -> Result<Text, Memory>
     ensures text { IfOk result (λ text. text ≡ signature_text sig.now) }
-    ensures signature { (place : Place) → IsSignature place sig.now → IfOk result (λ text. SignatureSpells place sig.now text) }
+    ensures signature { (place : SigPlace) → IsSignature place sig.now → IfOk result (λ text. SignatureSpells place sig.now text) }
     ensures descriptor { IsDescriptor sig.now → IfOk result (λ text. DescriptorSpells sig.now text) }
 {
     let mut out = Vec::new(alloc);

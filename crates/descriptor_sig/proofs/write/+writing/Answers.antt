@@ -1,6 +1,6 @@
 use Rattle.std.proofs.Common.{ap, refl, sym, ◌∙◌, ◌++◌, ◌∷◌, [], map}
 use Rattle.std.proofs.lemmas.Result.{on_ok_weaker}
-use Rattle.class_desc.specs.Types.{type_text, part_text, arg_text, parts_text, args_text}
+use Rattle.java_types.specs.Types.{type_text, part_text, arg_text, parts_text, args_text}
 use Rattle.descriptor_sig.proofs.Writing.{two_written, one_more, all_written, parts_written, part_written, args_written, void_written, prim_written, named_written, var_written, array_written, exact_written, extends_written, super_written, any_written}
 use Rattle.descriptor_sig.proofs.write.+writing.Goals as goal
 

@@ -1,6 +1,6 @@
 use Rattle.std.proofs.Common.{◌≡◌, ◌∷◌, ◌++◌, take}
 use Rattle.std.specs.List.{flat_map}
-use Rattle.class_desc.specs.Types.{part_text, arg_text}
+use Rattle.java_types.specs.Types.{part_text, arg_text}
 use Rattle.descriptor_sig.proofs.write.+writing.Given as goal
 
 abbrev pub invariant-write_parts-loop-part : goal.invariant-write_parts-loop-part

@@ -1,5 +1,5 @@
 use Rattle.std.proofs.Common.{refl, ◌∷◌, []}
-use Rattle.class_desc.specs.Types.{type_text}
+use Rattle.java_types.specs.Types.{type_text}
 use Rattle.descriptor_sig.proofs.Writing.{two_written, one_more, all_written}
 use Rattle.descriptor_sig.proofs.write.write_each_after.Goals as goal
 

@@ -1,6 +1,6 @@
 use Rattle.std.proofs.Common.{◌≡◌, ◌∷◌, ◌++◌, take}
 use Rattle.std.specs.List.{flat_map}
-use Rattle.class_desc.specs.Types.{type_text}
+use Rattle.java_types.specs.Types.{type_text}
 use Rattle.descriptor_sig.proofs.write.write_each_after.Given as goal
 
 abbrev pub invariant-loop-ty : goal.invariant-loop-ty

@@ -1,6 +1,6 @@
 use Rattle.std.proofs.Common.{sym, ◌∙◌}
 use Rattle.std.proofs.lemmas.Result.{on_ok_weaker}
-use Rattle.class_desc.specs.Types.{param_text}
+use Rattle.java_types.specs.Types.{param_text}
 use Rattle.descriptor_sig.proofs.Writing.{one_more, all_written, params_written}
 use Rattle.descriptor_sig.proofs.write.write_params.Goals as goal
 

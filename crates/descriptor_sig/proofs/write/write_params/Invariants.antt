@@ -1,6 +1,6 @@
 use Rattle.std.proofs.Common.{◌≡◌, ◌++◌, take}
 use Rattle.std.specs.List.{flat_map}
-use Rattle.class_desc.specs.Types.{param_text}
+use Rattle.java_types.specs.Types.{param_text}
 use Rattle.descriptor_sig.proofs.write.write_params.Given as goal
 
 abbrev pub invariant-loop-param : goal.invariant-loop-param

@@ -1,4 +1,4 @@
-use Rattle.class_desc.specs.Types.{type_text}
+use Rattle.java_types.specs.Types.{type_text}
 use Rattle.descriptor_sig.proofs.Writing.{one_more, all_written}
 use Rattle.descriptor_sig.proofs.write.write_types.Goals as goal
 

@@ -1,0 +1,10 @@
+use Rattle.std.proofs.Common.{length}
+use Rattle.descriptor_sig.specs.Standing.{TypesStand}
+use Rattle.descriptor_sig.proofs.Leading.{Leads, behind}
+use Rattle.descriptor_sig.proofs.signature_reader.SignatureReader.types.Given as goal
+
+abbrev pub invariant-loop-alloc : goal.invariant-loop-alloc
+invariant-loop-alloc l = Leads (behind l.types.items) TypesStand TypesStand l.fn.self l.self
+
+abbrev pub decreases-loop-alloc : goal.decreases-loop-alloc
+decreases-loop-alloc l = length l.self
