@@ -1,5 +1,5 @@
 -- A text has no more units than its source has bytes.
-use Rattle.std.proofs.Common.{◌≡◌, ℕ, zero, suc, ◌+◌, ◌-◌, ◌≤◌, Bool, true, false, ◌&&◌, ◌==◌, not, nat_lt, List, [], ◌∷◌, Option, Some, None, length, take, refl, ◌∙◌, ap, arith, length-append, if◌then◌else◌, inl, inr, slice_index}
+use Rattle.std.proofs.Common.{◌≡◌, ℕ, zero, suc, ◌+◌, ◌-◌, ◌≤◌, Bool, true, false, ◌&&◌, ◌==◌, nat_lt, List, [], ◌∷◌, length, take, refl, ◌∙◌, ap, arith, length-append, if◌then◌else◌, inl, inr, slice_index}
 use Rattle.std.specs.List.{flat_map}
 use Rattle.std.specs.Str.{chars, IsUtf8, encode_utf8_all}
 use Rattle.std.specs.Char.Escape.{encode_utf16}
@@ -8,30 +8,22 @@ use Rattle.std.specs.Str.Lossy.{utf8_valid_len}
 use Rattle.std.proofs.lemmas.Str.{length-encode, encodes-chars, utf8_valid_len_le, len_utf8_bounds}
 use Rattle.std.proofs.lemmas.Bool.{cases_lt, lt-ltb, le-ltb, eqb-false}
 use Rattle.std.proofs.lemmas.List.{length-take-le, length-take}
-use Rattle.java_text.specs.Source.{translated_from, escape_value, escape_length, escape_or, without_last_substitute, text_of, raw_units, translated, is_all_utf8}
-
-escaped_length : (value : Option ℕ) (escaped : ℕ → List ℕ) (alone : List ℕ) (n : ℕ) → ((v : ℕ) → length (escaped v) ≤ n) → length alone ≤ n
-    → length (escape_or value escaped alone) ≤ n
-escaped_length None escaped alone n e a = a
-escaped_length (Some v) escaped alone n e a = e v
+use Rattle.java_text.specs.declared.escape.Input.{Input}
+use Rattle.java_text.specs.Source.{first_input, inputs_up_to, without_last_substitute, text_of, raw_units, translated, is_all_utf8}
+use Rattle.java_text.proofs.EscapeLemmas.{units_of, rest_within}
 
 chosen_length : (b : Bool) (xs ys : List ℕ) (n : ℕ) → length xs ≤ n → length ys ≤ n → length (if b then xs else ys) ≤ n
 chosen_length true xs ys n x y = x
 chosen_length false xs ys n x y = y
 
-more : (c : ℕ) (xs : List ℕ) (n : ℕ) → length xs ≤ n → length (c ∷ xs) ≤ suc n
-more c xs n h = omega arith
-
-pub length-translated : (skipped : ℕ) (odd : Bool) (units : List ℕ) → length (translated_from skipped odd units) ≤ length units
-unfolding translated_from
-length-translated zero odd [] = omega arith
-length-translated (suc n) odd [] = omega arith
-length-translated (suc n) odd (c ∷ units) = let h = length-translated n odd units in omega (arith, h)
-length-translated zero odd (c ∷ units) = chosen_length (c == 92 && not odd) _ _ (suc (length units))
-    (escaped_length (escape_value units) (λ value. value ∷ translated_from (escape_length units) false units) (92 ∷ translated_from 0 true units) (suc (length units))
-    (λ v. more v (translated_from (escape_length units) false units) (length units) (length-translated (escape_length units) false units))
-    (more 92 (translated_from 0 true units) (length units) (length-translated 0 true units)))
-    (more c (translated_from 0 false units) (length units) (length-translated 0 false units))
+length-inputs : (n : ℕ) (recent : List Input) (units : List ℕ) → length (units_of (inputs_up_to n recent units)) ≤ length units
+unfolding inputs_up_to
+length-inputs zero recent units = omega arith
+length-inputs (suc n) recent [] = omega arith
+length-inputs (suc n) recent (c ∷ units) =
+    let first = first_input recent c units in
+    let h = length-inputs n (first.0 ∷ recent) first.1 in
+    omega (arith, h, rest_within recent c units)
 
 one_character : (c : ℕ) → length (encode_utf16 c) ≤ length (encode_utf8 c)
 one_character c = elim (cases_lt c 65536) [
@@ -63,7 +55,7 @@ unfolding text_of
 text_length bytes u =
     let front = take (utf8_valid_len bytes) bytes in
     let a = kept_length (translated (raw_units bytes)) in
-    let b = length-translated 0 false (raw_units bytes) in
+    let b = length-inputs (length (raw_units bytes)) [] (raw_units bytes) in
     let d = length-utf16 (chars front) in
     let e : length (encode_utf8_all (chars front)) ≡ utf8_valid_len bytes = ap length (encodes-chars front u) ∙ length-take-le (utf8_valid_len bytes) bytes (utf8_valid_len_le bytes) in
     let f = one_spare (is_all_utf8 bytes) (utf8_valid_len bytes) (length bytes) refl (utf8_valid_len_le bytes) in

@@ -4,7 +4,8 @@ use Rattle.std.proofs.lemmas.Bool.{cases_lt}
 use Rattle.ucd_table.specs.Rows.{value_in}
 use Rattle.unicode.specs.GeneralCategory.{general_category}
 use Rattle.ucd_category.specs.GeneralCategoryRows.{general_category_rows}
-use Rattle.java_text.specs.Letters.{is_start, is_part, is_ascii_start, is_ascii_part, is_white, is_ascii_white}
+use Rattle.java_text.specs.Letters.{is_start, is_part, is_white}
+use Rattle.java_text.specs.Ascii.{is_ascii_start, is_ascii_part, is_ascii_white}
 
 -- the numbers below k, the greatest first
 abbrev pub below : ℕ → List ℕ

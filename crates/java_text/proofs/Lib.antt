@@ -1,3 +1,4 @@
 pub mod LetterLemmas
 pub mod EscapeLemmas
 pub mod LengthLemmas
+pub mod FitLemmas

@@ -38,14 +38,6 @@ is_start c = all_scalars (c ∷ []) && begins_name (general_category c)
 unfoldable pub is_part : ℕ → Bool
 is_part c = all_scalars (c ∷ []) && (is_ignorable c || goes_on (general_category c))
 
--- the ASCII letters, the dollar sign and the low line
-abbrev pub is_ascii_start : ℕ → Bool
-is_ascii_start c = (nat_le 0x41 c && nat_le c 0x5A) || ((nat_le 0x61 c && nat_le c 0x7A) || (c == 0x24 || c == 0x5F))
-
--- these, the ASCII digits and the ASCII control characters that an identifier may hold
-abbrev pub is_ascii_part : ℕ → Bool
-is_ascii_part c = is_ascii_start c || ((nat_le 0x30 c && nat_le c 0x39) || (nat_le c 0x08 || ((nat_le 0x0E c && nat_le c 0x1B) || c == 0x7F)))
-
 -- spaces and separators of lines and paragraphs
 abbrev pub separates : GeneralCategory → Bool
 separates SpaceSeparator = true
@@ -64,7 +56,3 @@ is_control_white c = (nat_le 0x09 c && nat_le c 0x0D) || (nat_le 0x1C c && nat_l
 -- the code point is a character, and white space where text blocks are stripped (JLS 3.10.6, String.stripIndent)
 unfoldable pub is_white : ℕ → Bool
 is_white c = all_scalars (c ∷ []) && ((separates (general_category c) && not (is_no_break c)) || is_control_white c)
-
--- the same for ASCII
-abbrev pub is_ascii_white : ℕ → Bool
-is_ascii_white c = c == 0x20 || is_control_white c

@@ -1,2 +1,4 @@
+pub mod Ascii
+pub mod Ending
 pub mod Letters
 pub mod Source

@@ -1,9 +1,12 @@
 -- The text of a source: from bytes to UTF-16 units (JLS 3.2, 3.3, 3.5).
-use Rattle.std.specs.Prelude.{ℕ, zero, suc, ◌+◌, ◌*◌, ◌-◌, Bool, true, false, ◌&&◌, ◌||◌, not, ◌==◌, nat_le, nat_lt, List, [], ◌∷◌, length, take, drop, take_while, slice_index, Option, Some, None, if◌then◌else◌}
+use Rattle.std.specs.Prelude.{ℕ, zero, suc, ◌+◌, ◌*◌, ◌-◌, Bool, true, false, ◌&&◌, ◌||◌, not, ◌==◌, nat_lt, List, [], ◌∷◌, length, map, take, drop, take_while, slice_index, Option, Some, None, if◌then◌else◌}
 use Rattle.std.specs.List.{flat_map}
+use Rattle.std.specs.Char.{is_digit, digit_value}
 use Rattle.std.specs.Str.{chars}
 use Rattle.std.specs.Str.Lossy.{utf8_valid_len}
 use Rattle.std.specs.Char.Escape.{encode_utf16}
+use Rattle.java_text.specs.declared.character.TheConstants.{BACKSLASH, LETTER_U, SUBSTITUTE}
+use Rattle.java_text.specs.declared.escape.Input.{Input}
 
 -- the UTF-16 units of the longest front of the bytes that is UTF-8
 abbrev pub raw_units : List ℕ → List ℕ
@@ -13,54 +16,88 @@ raw_units bytes = flat_map encode_utf16 (chars (take (utf8_valid_len bytes) byte
 abbrev pub is_all_utf8 : List ℕ → Bool
 is_all_utf8 bytes = utf8_valid_len bytes == length bytes
 
-abbrev pub is_hex_digit : ℕ → Bool
-is_hex_digit c = (nat_le 48 c && nat_le c 57) || ((nat_le 97 c && nat_le c 102) || (nat_le 65 c && nat_le c 70))
+-- ---- Unicode escapes (JLS 3.3)
+
+-- how long the Unicode marker at the front is, which is letters `u`: none is no marker
+abbrev pub marker_length : List ℕ → ℕ
+marker_length units = length (take_while (λ c. c == LETTER_U) units)
 
 -- what a hexadecimal digit stands for
-abbrev pub hex_value : ℕ → ℕ
-hex_value c = if nat_le c 57 then c - 48 else (if nat_le c 70 then c - 55 else c - 87)
+abbrev pub hex_digit : ℕ → Option ℕ
+hex_digit c = if is_digit c 16 then Some (digit_value c) else None
 
--- the number of four hexadecimal digits at the front
+-- the number with one more digit, if both are there
+abbrev pub with_digit : Option ℕ → Option ℕ → Option ℕ
+with_digit (Some number) (Some digit) = Some (number * 16 + digit)
+with_digit _ _ = None
+
+-- what the four hexadecimal digits at the front indicate
 abbrev pub four_digits : List ℕ → Option ℕ
-four_digits units =
-    if nat_le 4 (length units) && ((is_hex_digit (slice_index units 0) && is_hex_digit (slice_index units 1)) && (is_hex_digit (slice_index units 2) && is_hex_digit (slice_index units 3)))
-    then Some (((hex_value (slice_index units 0) * 16 + hex_value (slice_index units 1)) * 16 + hex_value (slice_index units 2)) * 16 + hex_value (slice_index units 3))
-    else None
+four_digits (a ∷ b ∷ c ∷ d ∷ units) =
+    with_digit (with_digit (with_digit (hex_digit a) (hex_digit b)) (hex_digit c)) (hex_digit d)
+four_digits units = None
 
--- how many letters `u` stand at the front
-abbrev pub marks : List ℕ → ℕ
-marks units = length (take_while (λ c. c == 117) units)
-
--- Behind a backslash: one letter `u` or more, and then four digits. The value is of the digits.
+-- what a backslash with these units behind it indicates, if it begins an escape: a marker and four digits
 unfoldable pub escape_value : List ℕ → Option ℕ
-escape_value units = if marks units == 0 then None else four_digits (drop (marks units) units)
+escape_value units = if marker_length units == 0 then None else four_digits (drop (marker_length units) units)
 
--- how many units behind the backslash a Unicode escape takes
+-- how many units behind its backslash an escape takes
 abbrev pub escape_length : List ℕ → ℕ
-escape_length units = marks units + 4
+escape_length units = marker_length units + 4
 
--- what a backslash and the units behind it give: an escape, or itself
-abbrev pub escape_or : Option ℕ → (ℕ → List ℕ) → List ℕ → List ℕ
-escape_or None escaped alone = alone
-escape_or (Some value) escaped alone = escaped value
+-- a unit that stands for itself, and one that an escape was translated to
+abbrev pub itself : ℕ → Input
+itself unit = record { unit = unit; is_escaped = false }
 
--- Unicode escapes are translated (JLS 3.3). A backslash may begin one if an even number of backslashes
--- stands right before it: `odd` says that the units before have an odd number at their end. The first
--- `skipped` units belong to an escape. What an escape stands for is not read again, and an escape that
--- is not whole stays as it is.
-unfoldable pub translated_from : ℕ → Bool → List ℕ → List ℕ
-translated_from skipped odd [] = []
-translated_from (suc skipped) odd (c ∷ cs) = translated_from skipped odd cs
-translated_from zero odd (c ∷ cs) = if c == 92 && not odd
-    then escape_or (escape_value cs) (λ value. value ∷ translated_from (escape_length cs) false cs) (92 ∷ translated_from 0 true cs)
-    else c ∷ translated_from 0 false cs
+abbrev pub indicated : ℕ → Input
+indicated unit = record { unit = unit; is_escaped = true }
 
+abbrev pub is_backslash : Input → Bool
+is_backslash input = input.unit == BACKSLASH
+
+abbrev pub is_first_escaped : List Input → Bool
+is_first_escaped [] = false
+is_first_escaped (input ∷ inputs) = input.is_escaped
+
+abbrev pub is_even : ℕ → Bool
+is_even zero = true
+is_even (suc n) = not (is_even n)
+
+-- A backslash is eligible to begin an escape behind what has resulted so far, the most recent first: where
+-- the most recent unit was itself translated from an escape, or else where the backslashes right before it
+-- are even in number, whether they come from escapes or not.
+abbrev pub is_eligible : List Input → Bool
+is_eligible recent = is_first_escaped recent || is_even (length (take_while is_backslash recent))
+
+-- what an eligible backslash gives, and the units that follow: an escape, or itself
+abbrev pub eligible_input : Option ℕ → List ℕ → Input × List ℕ
+eligible_input None units = (itself BACKSLASH, units)
+eligible_input (Some value) units = (indicated value, drop (escape_length units) units)
+
+-- what the unit gives with which the rest of the text begins, and what follows then
+abbrev pub first_input : List Input → ℕ → List ℕ → Input × List ℕ
+first_input recent c units =
+    if c == BACKSLASH && is_eligible recent then eligible_input (escape_value units) units
+    else (itself c, units)
+
+-- what the units behind those that gave `recent` give, in at most n steps
+unfoldable pub inputs_up_to : ℕ → List Input → List ℕ → List Input
+inputs_up_to zero recent units = []
+inputs_up_to (suc n) recent [] = []
+inputs_up_to (suc n) recent (c ∷ units) = let first = first_input recent c units in
+    first.0 ∷ inputs_up_to n (first.0 ∷ recent) first.1
+
+-- each step takes a unit or more
+abbrev pub inputs_behind : List Input → List ℕ → List Input
+inputs_behind recent units = inputs_up_to (length units) recent units
+
+-- the units with each Unicode escape replaced by what it indicates
 abbrev pub translated : List ℕ → List ℕ
-translated units = translated_from 0 false units
+translated units = map (λ (input : Input). input.unit) (inputs_behind [] units)
 
 -- a last U+001A is dropped (JLS 3.5)
 abbrev pub without_last_substitute : List ℕ → List ℕ
-without_last_substitute units = if nat_lt 0 (length units) && slice_index units (length units - 1) == 0x1A
+without_last_substitute units = if nat_lt 0 (length units) && slice_index units (length units - 1) == SUBSTITUTE
     then take (length units - 1) units else units
 
 -- the text of the bytes, as UTF-16 units

@@ -1,131 +1,137 @@
 //! Unicode escapes (JLS 3.3).
-ghost use Rattle.std.specs.Prelude.{◌≡◌, ◌≤◌, ◌<◌, ◌^◌, IfOk, MatchOption, OnSome, ◌++◌, ◌∷◌, length, None, Some, true};
-ghost use Rattle.java_text.specs.Source.{escape_length, escape_value, four_digits, hex_value, is_hex_digit, marks, translated, translated_from};
+ghost use Rattle.std.specs.Prelude.{◌≡◌, ◌≤◌, ◌<◌, ◌^◌, ◌++◌, ◌∷◌, [], IfOk, List, length, drop, map, IfSome, MatchOption, OnSome, None, Some, true, false};
+ghost use Rattle.java_text.specs.declared.escape.Input.{Input};
+ghost use Rattle.java_text.specs.Ending.{EndsSo};
+ghost use Rattle.java_text.specs.Source as spec;
+ghost use Rattle.java_text.specs.Source.{escape_length, escape_value, first_input, is_eligible, translated};
 
+use crate::character::{BACKSLASH, LETTER_U};
 use hdr_core::Memory;
 use std::alloc::Global;
 
-const BACKSLASH: u16 = 0x5C;
+/// A unit of the translated text.
+#[derive(Clone, Copy)]
+pub struct Input {
+    pub unit: u16,
+    /// Whether an escape was translated to it.
+    pub is_escaped: bool,
+}
 
-const LETTER_U: u16 = 0x75;
+/// How the units so far end.
+#[derive(Clone, Copy)]
+struct Ending {
+    /// The last one was translated from an escape.
+    is_escaped: bool,
+    /// The backslashes at the end are odd in number.
+    is_odd: bool,
+}
 
-/// The units with each Unicode escape replaced by what it stands for.
+/// The units with each Unicode escape replaced by what it indicates.
 pub fn translate(alloc: Global, raw: &[u16]) -> Result<Vec<u16>, Memory>
     ensures { IfOk result (λ units. units.items ≡ translated raw.now) }
 {
     let mut units = Vec::with_capacity(alloc, raw.len())?;
-    let mut next = Next {
-        skipped: 0,
-        odd: false,
+    let mut ending = Ending {
+        is_escaped: false,
+        is_odd: false,
     };
-    for (index, unit) in raw.iter().enumerate() {
-        if next.skipped > 0 {
-            next.skipped -= 1;
-        } else {
-            next = push_translated(&mut units, *unit, next.odd, &raw[index + 1..])?;
-        }
+    let mut at = 0;
+    while at < raw.len() {
+        let (input, taken) = ending.next(raw[at], &raw[at + 1..]);
+        units.push(input.unit)?;
+        ending = ending.behind(input);
+        at += 1 + taken;
     }
     Ok(units)
 }
 
-/// How to go on behind a unit.
-#[derive(Clone, Copy)]
-struct Next {
-    /// How many of the next units belong to an escape.
-    skipped: usize,
-    /// Whether the units before end in an odd number of backslashes that stand for themselves.
-    odd: bool,
+impl Ending {
+    /// What a unit gives behind this, and how many of the units after it belong to it.
+    #[inline]
+    fn next(self, unit: u16, after: &[u16]) -> (Input, usize)
+        ensures value { (recent : List Input) → EndsSo recent self
+            → first_input recent unit after.now ≡ (result.0, drop result.1 after.now) }
+        ensures within { result.1 ≤ length after.now }
+    {
+        if unit == BACKSLASH && self.is_eligible() {
+            if let Some((value, length)) = escape(after) {
+                return (
+                    Input {
+                        unit: value,
+                        is_escaped: true,
+                    },
+                    length,
+                );
+            }
+        }
+        (
+            Input {
+                unit,
+                is_escaped: false,
+            },
+            0,
+        )
+    }
+
+    fn is_eligible(self) -> bool
+        ensures { (recent : List Input) → EndsSo recent self → result ≡ is_eligible recent }
+    {
+        self.is_escaped || !self.is_odd
+    }
+
+    /// The end behind one more unit.
+    #[inline]
+    fn behind(self, input: Input) -> Ending
+        ensures { (recent : List Input) → EndsSo recent self → EndsSo (input ∷ recent) result }
+    {
+        Ending {
+            is_escaped: input.is_escaped,
+            is_odd: input.unit == BACKSLASH && !self.is_odd,
+        }
+    }
 }
 
-/// Pushes what the unit stands for, or the escape that it begins.
-fn push_translated(
-    units: &mut Vec<u16>,
-    unit: u16,
-    odd: bool,
-    after: &[u16],
-) -> Result<Next, Memory>
-    ensures { IfOk result (λ next. units.new.items ++ translated_from next.skipped next.odd after.now
-        ≡ units.old.items ++ translated_from 0 odd (unit ∷ after.now)) }
-{
-    if unit != BACKSLASH || odd {
-        units.push(unit)?;
-        return Ok(Next {
-            skipped: 0,
-            odd: false,
-        });
-    }
-    match escape(after) {
-        Some((value, length)) => {
-            units.push(value)?;
-            Ok(Next {
-                skipped: length,
-                odd: false,
-            })
-        }
-        None => {
-            units.push(BACKSLASH)?;
-            Ok(Next {
-                skipped: 0,
-                odd: true,
-            })
-        }
-    }
-}
-
-/// What the units behind a backslash make of it, and how many of them do.
+/// What the escape indicates that a backslash before these units begins, and how many of them belong to it.
 fn escape(after: &[u16]) -> Option<(u16, usize)>
-    ensures { MatchOption result (escape_value after.now ≡ None)
+    ensures value { MatchOption result (escape_value after.now ≡ None)
         (λ found. (escape_value after.now ≡ Some found.0) × (found.1 ≡ escape_length after.now)) }
+    ensures within { OnSome result (escape_length after.now ≤ length after.now) }
 {
-    let letters = count_marks(after);
-    if letters == 0 {
+    let marker = marker_length(after);
+    if marker == 0 {
         return None;
     }
-    match number(&after[letters..]) {
-        Some(value) => Some((value, letters + 4)),
+    match four_digits(&after[marker..]) {
+        Some(value) => Some((value, marker + 4)),
         None => None,
     }
 }
 
-fn count_marks(units: &[u16]) -> usize
-    ensures count { result ≡ marks units.now }
+fn marker_length(units: &[u16]) -> usize
+    ensures value { result ≡ spec.marker_length units.now }
     ensures within { result ≤ length units.now }
 {
     units.iter().take_while(|unit| **unit == LETTER_U).count()
 }
 
-fn number(units: &[u16]) -> Option<u16>
-    ensures value { result ≡ four_digits units.now }
+fn four_digits(units: &[u16]) -> Option<u16>
+    ensures value { result ≡ spec.four_digits units.now }
     ensures within { OnSome result (4 ≤ length units.now) }
 {
-    if units.len() >= 4
-        && (is_hex(units[0]) && is_hex(units[1]))
-        && (is_hex(units[2]) && is_hex(units[3]))
-    {
-        let high = digit(units[0]) * 16 + digit(units[1]);
-        let low = digit(units[2]) * 16 + digit(units[3]);
-        Some(high * 256 + low)
-    } else {
-        None
-    }
+    let [a, b, c, d, ..] = units else {
+        return None;
+    };
+    let high = hex_digit(*a)? * 16 + hex_digit(*b)?;
+    let low = hex_digit(*c)? * 16 + hex_digit(*d)?;
+    Some(high * 256 + low)
 }
 
-fn is_hex(unit: u16) -> bool
-    ensures { result ≡ is_hex_digit unit }
+/// What a hexadecimal digit stands for.
+#[inline]
+pub fn hex_digit(unit: u16) -> Option<u16>
+    ensures value { result ≡ spec.hex_digit unit }
+    ensures bound { IfSome result (λ digit. digit < 16) }
 {
-    matches!(unit, 48..=57 | 97..=102 | 65..=70)
-}
-
-fn digit(unit: u16) -> u16
-    requires { is_hex_digit unit ≡ true }
-    ensures value { result ≡ hex_value unit }
-    ensures bound { result < 16 }
-{
-    if unit <= 57 {
-        unit - 48
-    } else if unit <= 70 {
-        unit - 55
-    } else {
-        unit - 87
-    }
+    let digit = char::from_u32(unit as u32)?.to_digit(16)?;
+    Some(digit as u16)
 }

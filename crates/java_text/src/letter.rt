@@ -1,6 +1,7 @@
 //! The characters of identifiers.
 ghost use Rattle.std.specs.Prelude.{◌≡◌, ◌<◌};
-ghost use Rattle.java_text.specs.Letters.{begins_name, goes_on, is_ascii_part, is_ascii_start, is_ignorable, is_part, is_start};
+ghost use Rattle.java_text.specs.Ascii.{is_ascii_part, is_ascii_start};
+ghost use Rattle.java_text.specs.Letters.{begins_name, goes_on, is_ignorable, is_part, is_start};
 
 use unicode::properties::GeneralCategory;
 

@@ -1,13 +1,17 @@
-//! The text of a Java source (JLS 3.2 to 3.5, 3.8), and modified UTF-8 (JVMS 4.4.7).
+//! The text of a Java source (JLS 3.2 to 3.5, 3.8).
 #![tactic(auto)]
 
+mod character;
 mod escape;
 mod letter;
-mod modified;
 mod source;
 mod white;
 
+pub use character::{
+    APOSTROPHE, ASTERISK, BACKSLASH, CARRIAGE_RETURN, FORM_FEED, LINE_FEED, LOW_LINE,
+    QUOTATION_MARK, SLASH, SPACE, TAB,
+};
+pub use escape::hex_digit;
 pub use letter::{begins_identifier, continues_identifier};
-pub use modified::modified_utf8;
 pub use source::{SourceText, source_text};
 pub use white::is_white;

@@ -6,6 +6,7 @@ ghost use Rattle.std.specs.Str.Lossy.{utf8_valid_len};
 ghost use Rattle.std.specs.Char.Escape.{encode_utf16};
 ghost use Rattle.java_text.specs.Source.{is_all_utf8, raw_units, text_of, without_last_substitute};
 
+use crate::character::SUBSTITUTE;
 use crate::escape::translate;
 use hdr_core::Memory;
 use std::alloc::Global;
@@ -61,13 +62,10 @@ fn raw(alloc: Global, text: &str) -> Result<Vec<u16>, Memory>
 fn push_character(units: &mut Vec<u16>, character: char) -> Result<(), Memory>
     ensures { OnOk result (units.new.items ≡ units.old.items ++ encode_utf16 character) }
 {
-    let code = character as u32;
-    if code < 0x1_0000 {
-        units.push(code as u16)?;
+    if let Ok(unit) = u16::try_from(character as u32) {
+        units.push(unit)?;
     } else {
-        let over = code - 0x1_0000;
-        units.push((0xD800 + over / 0x400) as u16)?;
-        units.push((0xDC00 + over % 0x400) as u16)?;
+        units.extend_from_slice(character.encode_utf16(&mut [0; 2]))?;
     }
     Ok(())
 }
@@ -75,8 +73,7 @@ fn push_character(units: &mut Vec<u16>, character: char) -> Result<(), Memory>
 fn drop_last_substitute(units: &mut Vec<u16>)
     ensures { units.new.items ≡ without_last_substitute units.old.items }
 {
-    let length = units.len();
-    if 0 < length && units[length - 1] == 0x1A {
-        units.truncate(length - 1);
+    if units.last() == Some(&SUBSTITUTE) {
+        units.pop();
     }
 }

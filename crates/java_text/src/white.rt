@@ -1,5 +1,6 @@
 //! White space in text blocks.
 ghost use Rattle.std.specs.Prelude.{◌≡◌};
+ghost use Rattle.java_text.specs.Ascii.{is_ascii_white};
 ghost use Rattle.java_text.specs.Letters as spec;
 
 use unicode::properties::GeneralCategory;
@@ -19,7 +20,7 @@ pub fn is_white(unit: u16) -> bool
 
 #[inline]
 fn is_ascii_white(unit: u16) -> bool
-    ensures { result ≡ spec.is_ascii_white unit }
+    ensures { result ≡ is_ascii_white unit }
 {
     unit == 0x20 || is_control_white(unit)
 }

@@ -1,20 +1,24 @@
-use Rattle.std.proofs.Common.{◌≡◌, ◌++◌, ◌∙◌, sym, ap, arith}
+use Rattle.std.proofs.Common.{◌∙◌, ◌++◌, ◌+◌, sym, ap, arith, drop, length-drop}
 use Rattle.std.proofs.lemmas.List.{take_rest}
-use Rattle.java_text.specs.Source.{translated_from}
-use Rattle.java_text.proofs.EscapeLemmas.{opened, passed, ended}
+use Rattle.java_text.specs.Source.{inputs_behind}
+use Rattle.java_text.proofs.EscapeLemmas.{units_of, opened, pushed, further, ended}
 use Rattle.java_text.proofs.escape.translate.Goals as goal
-use Rattle.java_text.proofs.escape.translate.Goals.{then-next-gt0, else-next-gt0+in_ok-next}
 
-pub loop-index-preserved : goal.loop-index-preserved
-loop-index-preserved c = elim c.if-next-gt0.branch [
-  | then-next-gt0 w ↦ rw (w.units-is, w.next-is) (rw (passed _ _ _ c.args.raw.now c.loop-index-test.true w.if-next-gt0.true) c.loop-index.invariant)
-  | else-next-gt0+in_ok-next w ↦ (
-      let none_skipped : c.loop-index.next.skipped ≡ 0 = omega (arith, w.if-next-gt0.false) in
-      rw (w.units-is, w.next-is) (
-      (simp take_rest at w.in_ok-next.ensures)
-      ∙ ap (λ t. c.loop-index.units.items ++ translated_from 0 c.loop-index.next.odd t) (sym (opened _ c.args.raw.now c.loop-index-test.true))
-      ∙ (rw none_skipped at c.loop-index.invariant)))
-]
+pub loop-at-preserved : goal.loop-at-preserved
+loop-at-preserved c =
+    let held = c.loop-at.invariant in
+    let raw = c.args.raw.now in
+    let at = c.loop-at.at in
+    let taken = c.next-taken.result.1 in
+    let within = simp take_rest at c.next-taken.ensures.within in (
+      _,
+      c.behind-ending.ensures held.0 held.1,
+      omega (arith, within, length-drop (at + 1) raw, c.loop-at-test.true),
+      rw (further at taken raw) (
+          pushed held.0 _ (drop (at + 1) raw) _ c.loop-at.units.items _ c.next-taken.result.0 (simp take_rest at (c.next-taken.ensures.value held.0 held.1)) c.in_ok-push.ensures.items
+          ∙ ap (λ t. c.loop-at.units.items ++ units_of (inputs_behind held.0 t)) (sym (opened at raw c.loop-at-test.true))
+          ∙ held.3),
+    )
 
 pub returns : goal.returns
-returns c = ended _ _ _ c.args.raw.now _ c.loop-index-test.false c.loop-index.invariant
+returns c = ended c.loop-at.at c.loop-at.invariant.0 c.args.raw.now _ c.loop-at-test.false c.loop-at.invariant.3
