@@ -8,7 +8,8 @@ use Rattle.java_lexer.specs.declared.kind.Kind.{Kind}
 use Rattle.java_lexer.specs.Pieces.{kind_of, longest_up_to, or_shorter, piece_at, opens_comment}
 use Rattle.java_lexer.specs.Grammar.{kind_by, comment}
 use Rattle.java_lexer.specs.Tokens.{token_of}
-use Rattle.java_lexer.specs.Lexing.{Cut, with_token, ended, with_piece, cut_up_to, line_behind, line_ends, ends_in_return, tokens_at}
+use Rattle.java_lexer.specs.Lexing.{Cut, with_token, ended, with_piece, cut_up_to, line_behind, line_ends}
+use Rattle.java_lexer.specs.Cutting.{ends_in_return, tokens_at}
 
 -- a longest piece is not empty
 some_front : (kind : List ℕ → Option Kind) (n : ℕ) (units : List ℕ) → IfSome (longest_up_to kind n units) (λ found. 0 < found.0)

@@ -1,13 +1,18 @@
 -- What is left of productions behind a unit. A unit counts by its symbol alone.
-use Rattle.std.proofs.Common.{◌≡◌, ℕ, suc, Bool, true, false, ◌&&◌, ◌||◌, not, ◌==◌, List, [], ◌∷◌, ◌++◌, Option, Some, if◌then◌else◌, refl, sym, ◌∙◌, ap}
+use Rattle.std.proofs.Common.{◌≡◌, ℕ, Bool, true, false, ◌&&◌, ◌||◌, not, ◌==◌, List, [], ◌∷◌, ◌++◌, Option, Some, if◌then◌else◌, refl, sym, ◌∙◌, ap, subst, arith}
+use Rattle.std.proofs.lemmas.Bool.{eqb-true}
 use Rattle.java_lexer.specs.declared.kind.Kind.{Kind}
-use Rattle.java_lexer.specs.Grammar.{symbol, Except, holds, has, Item, One, Maybe, Many, Tail, StringTail, BlockTail, CommentTail, is_empty, line_ends, any_of, octal_digit, simple_escape, begins_escape, is_item, is_cut, is_spelled, Production, kind_by}
+use Rattle.java_lexer.specs.Grammar.{symbol, Except, holds, has, Item, One, Maybe, Many, Tail, StringTail, Characters, Quote, TwoQuotes, Backslash, BlockTail, CommentTail, is_empty, is_block_rest, line_ends, any_of, octal_digit, simple_escape, begins_escape, is_item, is_cut, is_spelled, Production, kind_by}
+use Rattle.java_lexer.proofs.BlockRest.{no_cut, same_symbol, plain_rest, escape_rest, one_quote, two_quotes, three_quotes}
 
 -- behind a symbol an item can't stand, or is over, or goes on as another
 pub data After : Type 0 where
   Ends : After
   Over : After
   Goes : Item → After
+
+abbrev pub behind_characters : ℕ → After
+behind_characters s = if s == 92 then Goes (BlockTail Backslash) else Goes (BlockTail Characters)
 
 abbrev pub after : Item → ℕ → After
 after (One units) s = if holds units s then Over else Ends
@@ -16,8 +21,10 @@ after (Many units) s = if holds units s then Goes (Many units) else Ends
 after (Tail digits gap) s = if holds digits s then Goes (Tail digits false) else (if s == 95 then Goes (Tail digits true) else Ends)
 after (StringTail false) s = if s == 92 then Goes (StringTail true) else (if holds (Except (34 ∷ line_ends)) s then Goes (StringTail false) else Ends)
 after (StringTail true) s = if holds simple_escape s || holds octal_digit s then Goes (StringTail false) else Ends
-after (BlockTail quotes true) s = if (holds simple_escape s || holds octal_digit s) || holds (any_of line_ends) s then Goes (BlockTail 0 false) else Ends
-after (BlockTail quotes false) s = if s == 34 then (if quotes == 2 then Over else Goes (BlockTail (suc quotes) false)) else Goes (BlockTail 0 (s == 92))
+after (BlockTail Characters) s = if s == 34 then Goes (BlockTail Quote) else behind_characters s
+after (BlockTail Quote) s = if s == 34 then Goes (BlockTail TwoQuotes) else behind_characters s
+after (BlockTail TwoQuotes) s = if s == 34 then Over else behind_characters s
+after (BlockTail Backslash) s = if (holds simple_escape s || holds octal_digit s) || holds (any_of line_ends) s then Goes (BlockTail Characters) else Ends
 after (CommentTail star) s = if star && s == 47 then Over else Goes (CommentTail (s == 42))
 
 abbrev pub is_after : After → List ℕ → Bool
@@ -34,6 +41,13 @@ if_is : (b : Bool) (x y : After) (w : List ℕ) (t u : Bool) → t ≡ is_after 
 if_is true x y w t u e f = e
 if_is false x y w t u e f = f
 
+-- a character that is no quotation mark
+no_quote : (c : ℕ) (w : List ℕ) → (c == 34) ≡ false → is_block_rest (c ∷ w) ≡ is_after (behind_characters (symbol c)) w
+no_quote c w q = by (c == 92) refl where
+  by : (b : Bool) → (c == 92) ≡ b → is_block_rest (c ∷ w) ≡ is_after (behind_characters (symbol c)) w
+  by true e = subst (λ x. is_block_rest (x ∷ w) ≡ is_after (behind_characters (symbol x)) w) (sym (eqb-true c 92 e)) refl
+  by false e = rw (same_symbol 92 c (omega arith), e) (plain_rest c w q e)
+
 after-is : (x : Item) (c : ℕ) (w : List ℕ) → is_item x (c ∷ w) ≡ is_after (after x (symbol c)) w
 after-is (One units) c w = and_is (has units c) Over w
 after-is (Maybe units) c w = and_is (has units c) Over w
@@ -41,9 +55,19 @@ after-is (Many units) c w = and_is (has units c) (Goes (Many units)) w
 after-is (Tail digits gap) c w = if_is (has digits c) (Goes (Tail digits false)) _ w _ _ refl (and_is (symbol c == 95) (Goes (Tail digits true)) w)
 after-is (StringTail false) c w = if_is (symbol c == 92) (Goes (StringTail true)) _ w _ _ refl (and_is (has (Except (34 ∷ line_ends)) c) (Goes (StringTail false)) w)
 after-is (StringTail true) c w = and_is (begins_escape c) (Goes (StringTail false)) w
-after-is (BlockTail quotes true) c w = and_is (begins_escape c || has (any_of line_ends) c) (Goes (BlockTail 0 false)) w
-after-is (BlockTail quotes false) c w = if_is (symbol c == 34) (if quotes == 2 then Over else Goes (BlockTail (suc quotes) false)) (Goes (BlockTail 0 (symbol c == 92))) w _ _
-    (if_is (quotes == 2) Over (Goes (BlockTail (suc quotes) false)) w _ _ refl refl) refl
+after-is (BlockTail Characters) c w = by (c == 34) refl where
+  by : (b : Bool) → (c == 34) ≡ b → is_block_rest (c ∷ w) ≡ is_after (if symbol c == 34 then Goes (BlockTail Quote) else behind_characters (symbol c)) w
+  by true e = subst (λ x. is_block_rest (x ∷ w) ≡ is_after (if symbol x == 34 then Goes (BlockTail Quote) else behind_characters (symbol x)) w) (sym (eqb-true c 34 e)) refl
+  by false e = rw (same_symbol 34 c (omega arith), e) (no_quote c w e)
+after-is (BlockTail Quote) c w = by (c == 34) refl where
+  by : (b : Bool) → (c == 34) ≡ b → is_block_rest (34 ∷ c ∷ w) ≡ is_after (if symbol c == 34 then Goes (BlockTail TwoQuotes) else behind_characters (symbol c)) w
+  by true e = subst (λ x. is_block_rest (34 ∷ x ∷ w) ≡ is_after (if symbol x == 34 then Goes (BlockTail TwoQuotes) else behind_characters (symbol x)) w) (sym (eqb-true c 34 e)) refl
+  by false e = rw (same_symbol 34 c (omega arith), e) (one_quote c w e ∙ no_quote c w e)
+after-is (BlockTail TwoQuotes) c w = by (c == 34) refl where
+  by : (b : Bool) → (c == 34) ≡ b → is_block_rest (34 ∷ 34 ∷ c ∷ w) ≡ is_after (if symbol c == 34 then Over else behind_characters (symbol c)) w
+  by true e = subst (λ x. is_block_rest (34 ∷ 34 ∷ x ∷ w) ≡ is_after (if symbol x == 34 then Over else behind_characters (symbol x)) w) (sym (eqb-true c 34 e)) (three_quotes w)
+  by false e = rw (same_symbol 34 c (omega arith), e) (two_quotes c w e ∙ no_quote c w e)
+after-is (BlockTail Backslash) c w = escape_rest c w ∙ and_is (begins_escape c || has (any_of line_ends) c) (Goes (BlockTail Characters)) w
 after-is (CommentTail star) c w = if_is (star && symbol c == 47) Over (Goes (CommentTail (symbol c == 42))) w _ _ refl refl
 
 -- the item may spell nothing
@@ -53,7 +77,7 @@ can_end (Maybe units) = true
 can_end (Many units) = true
 can_end (Tail digits gap) = not gap
 can_end (StringTail escaped) = not escaped
-can_end (BlockTail quotes escaped) = false
+can_end (BlockTail read) = false
 can_end (CommentTail star) = false
 
 can_end-is : (x : Item) → is_item x [] ≡ can_end x
@@ -63,8 +87,10 @@ can_end-is (Many units) = refl
 can_end-is (Tail digits gap) = refl
 can_end-is (StringTail true) = refl
 can_end-is (StringTail false) = refl
-can_end-is (BlockTail quotes true) = refl
-can_end-is (BlockTail quotes false) = refl
+can_end-is (BlockTail Characters) = refl
+can_end-is (BlockTail Quote) = refl
+can_end-is (BlockTail TwoQuotes) = refl
+can_end-is (BlockTail Backslash) = refl
 can_end-is (CommentTail star) = refl
 
 abbrev pub continued : After → List Item → List (List Item)
@@ -98,11 +124,6 @@ or_comm false false = refl
 any_append : (xs ys : List (List Item)) (w : List ℕ) → any_spells (xs ++ ys) w ≡ (any_spells xs w || any_spells ys w)
 any_append [] ys w = refl
 any_append (x ∷ xs) ys w = ap (λ b. is_spelled x w || b) (any_append xs ys w) ∙ sym (or_assoc (is_spelled x w) (any_spells xs w) (any_spells ys w))
-
--- no front passes
-no_cut : (q : List ℕ → Bool) (w : List ℕ) → is_cut (λ v. false) q w ≡ false
-no_cut q [] = refl
-no_cut q (c ∷ w) = no_cut q w
 
 -- only the empty front passes
 empty_cut : (q : List ℕ → Bool) (w : List ℕ) → is_cut is_empty q w ≡ q w

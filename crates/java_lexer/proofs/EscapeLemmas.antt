@@ -1,48 +1,79 @@
--- One step of replacing escapes: `out` is what came before, `more` what it becomes.
-use Rattle.std.proofs.Common.{◌≡◌, ℕ, zero, suc, ◌+◌, ◌-◌, ◌<◌, ◌≤◌, true, false, ◌==◌, List, [], ◌∷◌, ◌++◌, length, drop, get_or, slice_index, refl, sym, ◌∙◌, ap, append_assoc, append-nil, ◌≢◌, drop-cons, add-one, arith, if◌then◌else◌}
-use Rattle.std.proofs.lemmas.List.{drop_all}
-use Rattle.java_lexer.specs.Escapes.{unescaped_from, escape_units, escape_length, escape_value}
+-- The items of a text, one after the other: `out` is what came before.
+use Rattle.std.proofs.Common.{◌≡◌, ℕ, zero, suc, ◌+◌, ◌<◌, ◌≤◌, Bool, true, false, ◌==◌, List, [], ◌∷◌, ◌++◌, length, drop, get_or, slice_index, refl, sym, ◌∙◌, ap, append_assoc, append-nil, ◌≢◌, drop-cons, add-one, arith, length-drop, if◌then◌else◌}
+use Rattle.std.specs.List.{concat}
+use Rattle.std.proofs.lemmas.List.{drop_all, drop-drop}
+use Rattle.java_text.specs.declared.character.TheConstants.{BACKSLASH, LINE_FEED}
+use Rattle.java_lexer.specs.Escapes.{escape_units, escape_length, escape_value, first_item, items_up_to, items_of, look_up}
 
 pub opened : (i : ℕ) (units : List ℕ) → i < length units → drop i units ≡ get_or units i 0 ∷ drop (i + 1) units
 opened i units h = rw (add-one, drop-cons units i 0) refl
 
--- a unit that belongs to an escape
-pub passed : (skipped i : ℕ) (units : List ℕ) → i < length units → 0 < skipped
-    → unescaped_from (skipped - 1) (drop (i + 1) units) ≡ unescaped_from skipped (drop i units)
-unfolding unescaped_from
-passed zero i units h g = absurd (omega arith)
-passed (suc n) i units h g = rw (opened i units h) (let e : suc n - 1 ≡ n = omega arith in ap (λ k. unescaped_from k (drop (i + 1) units)) e)
+chosen_within : (b : Bool) (c : ℕ) (units : List ℕ)
+    → (let item : List ℕ × List ℕ = if b then (escape_units units, drop (escape_length units) units) else (c ∷ [], units) in length item.1 ≤ length units)
+chosen_within true c units = omega (arith, length-drop (escape_length units) units)
+chosen_within false c units = omega arith
 
--- a unit that begins no escape
-pub stays : (c : ℕ) (out more units : List ℕ) → more ≡ out ++ c ∷ [] → (c == 92) ≡ false
-    → more ++ unescaped_from 0 units ≡ out ++ unescaped_from 0 (c ∷ units)
-unfolding unescaped_from
-stays c out more units m e = rw m (append_assoc out (c ∷ []) (unescaped_from 0 units)
-    ∙ ap (λ t. out ++ t) (sym (ap (λ b. if b then escape_units units ++ unescaped_from (escape_length units) units else c ∷ unescaped_from 0 units) e)))
+-- an item takes a unit or more
+rest_within : (c : ℕ) (units : List ℕ) → length (first_item c units).1 ≤ length units
+rest_within c units = chosen_within (c == BACKSLASH) c units
 
--- an escape
-pub replaced : (c n : ℕ) (out more units : List ℕ) → more ≡ out ++ escape_units units → (c == 92) ≡ true → n ≡ escape_length units
-    → more ++ unescaped_from n units ≡ out ++ unescaped_from 0 (c ∷ units)
-unfolding unescaped_from
-replaced c n out more units m e l = rw (m, l) (append_assoc out (escape_units units) (unescaped_from (escape_length units) units)
-    ∙ ap (λ t. out ++ t) (sym (ap (λ b. if b then escape_units units ++ unescaped_from (escape_length units) units else c ∷ unescaped_from 0 units) e)))
+-- more steps than units give the same
+enough : (n m : ℕ) (units : List ℕ) → length units ≤ n → length units ≤ m → items_up_to n units ≡ items_up_to m units
+unfolding items_up_to
+enough zero zero units h k = refl
+enough zero (suc m) [] h k = refl
+enough (suc n) zero [] h k = refl
+enough (suc n) (suc m) [] h k = refl
+enough zero (suc m) (c ∷ units) h k = absurd (omega (arith, h))
+enough (suc n) zero (c ∷ units) h k = absurd (omega (arith, k))
+enough (suc n) (suc m) (c ∷ units) h k =
+    let w = rest_within c units in
+    ap (λ items. (first_item c units).0 ∷ items) (enough n m (first_item c units).1 (omega arith) (omega arith))
 
-none_left : (n : ℕ) → unescaped_from n [] ≡ []
-unfolding unescaped_from
-none_left zero = refl
-none_left (suc n) = refl
+one_item : (c : ℕ) (units : List ℕ) → items_of (c ∷ units) ≡ (first_item c units).0 ∷ items_of (first_item c units).1
+unfolding items_up_to
+one_item c units = ap (λ items. (first_item c units).0 ∷ items) (enough (length units) (length (first_item c units).1) _ (rest_within c units) (omega arith))
+
+-- an item, as the code takes it
+pub pushed : (c : ℕ) (units rest out more : List ℕ) → more ≡ out ++ (first_item c units).0 → rest ≡ (first_item c units).1
+    → more ++ concat (items_of rest) ≡ out ++ concat (items_of (c ∷ units))
+pushed c units rest out more m r =
+    rw (m, r, one_item c units) (append_assoc out (first_item c units).0 (concat (items_of (first_item c units).1)))
+
+pub further : (at taken : ℕ) (units : List ℕ) → drop (at + (1 + taken)) units ≡ drop taken (drop (at + 1) units)
+further at taken units = let same : (at + 1) + taken ≡ at + (1 + taken) = omega arith in sym (drop-drop taken (at + 1) units ∙ ap (λ n. drop n units) same)
 
 -- nothing is left
-pub ended : (n i : ℕ) (units out : List ℕ) → length units ≤ i → out ++ unescaped_from n (drop i units) ≡ unescaped_from 0 units
-    → out ≡ unescaped_from 0 units
-ended n i units out h e = sym (append-nil out) ∙ (rw (drop_all i units h, none_left n) at e)
+pub ended : (at : ℕ) (units out : List ℕ) → length units ≤ at → out ++ concat (items_of (drop at units)) ≡ concat (items_of units)
+    → out ≡ concat (items_of units)
+unfolding items_up_to
+ended at units out h e = sym (append-nil out) ∙ (rw (drop_all at units h) at e)
 
 -- what an escape adds
-pub one_unit : (units : List ℕ) → (slice_index units 0 == 10) ≡ false → escape_value units ∷ [] ≡ escape_units units
+pub one_unit : (units : List ℕ) → (slice_index units 0 == LINE_FEED) ≡ false → escape_value units ∷ [] ≡ escape_units units
 one_unit units e = sym (ap (λ b. if b then [] else escape_value units ∷ []) e)
 
-pub no_unit : (units : List ℕ) → (slice_index units 0 == 10) ≡ true → [] ≡ escape_units units
+pub no_unit : (units : List ℕ) → (slice_index units 0 == LINE_FEED) ≡ true → [] ≡ escape_units units
 no_unit units e = sym (ap (λ b. if b then [] else escape_value units ∷ []) e)
 
 pub differs : (a b : ℕ) → a ≢ b → (a == b) ≡ false
 differs a b h = grind (arith, h)
+
+-- ---- the table of escapes
+
+opened_table : (i : ℕ) (d : ℕ × ℕ) (entries : List (ℕ × ℕ)) → i < length entries → drop i entries ≡ get_or entries i d ∷ drop (i + 1) entries
+opened_table i d entries h = rw (add-one, drop-cons entries i d) refl
+
+-- the entry at a place has the unit
+pub found_here : (i : ℕ) (d : ℕ × ℕ) (entries : List (ℕ × ℕ)) (c : ℕ) → i < length entries → (c == (get_or entries i d).0) ≡ true
+    → (get_or entries i d).1 ≡ look_up (drop i entries) c
+found_here i d entries c h e = rw (opened_table i d entries h) (sym (ap (λ b. if b then (get_or entries i d).1 else look_up (drop (i + 1) entries) c) e))
+
+-- it has not
+pub not_here : (i : ℕ) (d : ℕ × ℕ) (entries : List (ℕ × ℕ)) (c : ℕ) → i < length entries → (c == (get_or entries i d).0) ≡ false
+    → look_up (drop (i + 1) entries) c ≡ look_up (drop i entries) c
+not_here i d entries c h e = rw (opened_table i d entries h) (sym (ap (λ b. if b then (get_or entries i d).1 else look_up (drop (i + 1) entries) c) e))
+
+-- all entries are looked at
+pub none_left : (i : ℕ) (entries : List (ℕ × ℕ)) (c : ℕ) → length entries ≤ i → c ≡ look_up (drop i entries) c
+none_left i entries c h = rw (drop_all i entries h) refl

@@ -1,8 +1,10 @@
 -- What each form of the machine stands for: what the grammar leaves behind some text.
-use Rattle.std.proofs.Common.{◌≡◌, ℕ, zero, suc, ◌<◌, Bool, true, false, List, [], ◌∷◌, ◌++◌, map, codes, Option, Some, None, refl, arith, inl, inr}
+use Rattle.std.proofs.Common.{◌≡◌, ℕ, zero, suc, ◌<◌, Bool, true, false, if◌then◌else◌, List, [], ◌∷◌, ◌++◌, map, codes, Option, Some, None, refl, arith, inl, inr}
 use Rattle.std.proofs.lemmas.Bool.{cases_lt}
 use Rattle.java_token.specs.declared.operator.OpTok.{OpTok}
 use Rattle.java_token.specs.declared.operator.OpTok.TheVariants as op
+use Rattle.java_token.specs.contracts.operator.OpTokPartialEq.TheImpl.{ghosts}
+use Rattle.java_lexer.specs.declared.operator.TheConstants.{OPERATORS}
 use Rattle.java_lexer.specs.declared.kind.Kind.{Kind}
 use Rattle.java_lexer.specs.declared.form.Form.{Form}
 use Rattle.java_lexer.specs.declared.form.Form.TheVariants as form
@@ -10,7 +12,7 @@ use Rattle.java_lexer.specs.declared.number.Number.{Number}
 use Rattle.java_lexer.specs.declared.number.Number.TheVariants as number
 use Rattle.java_lexer.specs.declared.quoted.Quoted.{Quoted}
 use Rattle.java_lexer.specs.declared.quoted.Quoted.TheVariants as quoted
-use Rattle.java_lexer.specs.Grammar.{Production, Except, Many, StringTail, BlockTail, the, line_ends, blanks, integers, decimals, hexadecimals, literals, operators, kind_by, grammar, comment}
+use Rattle.java_lexer.specs.Grammar.{Production, Spelling, Except, Many, StringTail, BlockTail, Read, Characters, Quote, TwoQuotes, Backslash, the, line_ends, blanks, integers, decimals, hexadecimals, literals, operators, kind_by, grammar, comment}
 use Rattle.java_lexer.specs.declared.kind.Kind.TheVariants as kind
 use Rattle.java_lexer.specs.Machine.{next_form, first_form, form_kind}
 use Rattle.java_lexer.proofs.Derive.{derive}
@@ -19,57 +21,13 @@ abbrev pub behind : List ℕ → List Production → List Production
 behind [] ps = ps
 behind (c ∷ w) ps = behind w (derive ps c)
 
+-- how the table writes an operator
+abbrev pub spelling_in : List Spelling → OpTok → List ℕ
+spelling_in [] operator = []
+spelling_in (entry ∷ entries) operator = if ghosts.eq entry.1 operator then entry.0.now else spelling_in entries operator
+
 abbrev pub spelling : OpTok → List ℕ
-spelling op.LeftParenthesis = codes "("
-spelling op.RightParenthesis = codes ")"
-spelling op.LeftBrace = codes "{"
-spelling op.RightBrace = codes "}"
-spelling op.LeftBracket = codes "["
-spelling op.RightBracket = codes "]"
-spelling op.Semicolon = codes ";"
-spelling op.Comma = codes ","
-spelling op.Dot = codes "."
-spelling op.Ellipsis = codes "..."
-spelling op.At = codes "@"
-spelling op.DoubleColon = codes "::"
-spelling op.Assign = codes "="
-spelling op.Greater = codes ">"
-spelling op.Less = codes "<"
-spelling op.Not = codes "!"
-spelling op.Complement = codes "~"
-spelling op.Question = codes "?"
-spelling op.Colon = codes ":"
-spelling op.Arrow = codes "->"
-spelling op.Equal = codes "=="
-spelling op.GreaterEqual = codes ">="
-spelling op.LessEqual = codes "<="
-spelling op.NotEqual = codes "!="
-spelling op.AndAnd = codes "&&"
-spelling op.OrOr = codes "||"
-spelling op.Increment = codes "++"
-spelling op.Decrement = codes "--"
-spelling op.Plus = codes "+"
-spelling op.Minus = codes "-"
-spelling op.Star = codes "*"
-spelling op.Slash = codes "/"
-spelling op.And = codes "&"
-spelling op.Or = codes "|"
-spelling op.Xor = codes "^"
-spelling op.Percent = codes "%"
-spelling op.ShiftLeft = codes "<<"
-spelling op.ShiftRight = codes ">>"
-spelling op.ShiftRightUnsigned = codes ">>>"
-spelling op.PlusAssign = codes "+="
-spelling op.MinusAssign = codes "-="
-spelling op.StarAssign = codes "*="
-spelling op.SlashAssign = codes "/="
-spelling op.AndAssign = codes "&="
-spelling op.OrAssign = codes "|="
-spelling op.XorAssign = codes "^="
-spelling op.PercentAssign = codes "%="
-spelling op.ShiftLeftAssign = codes "<<="
-spelling op.ShiftRightAssign = codes ">>="
-spelling op.ShiftRightUnsignedAssign = codes ">>>="
+spelling operator = spelling_in OPERATORS operator
 
 -- a text that leads to each form of a number
 abbrev pub number_text : Number → List ℕ
@@ -110,8 +68,8 @@ quoted_text quoted.Octal = 39 ∷ 92 ∷ 52 ∷ []
 quoted_text _ = []
 
 -- what is left of a text block
-abbrev pub block_left : ℕ → Bool → List Production
-block_left quotes escaped = (kind.Block, BlockTail quotes escaped ∷ []) ∷ []
+abbrev pub block_left : Read → List Production
+block_left read = (kind.TextBlock, BlockTail read ∷ []) ∷ []
 
 abbrev pub numbers : List Production
 numbers = integers ++ (decimals ++ hexadecimals)
@@ -131,10 +89,10 @@ stands form.TwoDots = behind (codes "..") operators
 stands (form.Number n) = behind (number_text n) numbers
 stands (form.Quoted quoted.Text) = (kind.String, StringTail false ∷ the 34 ∷ []) ∷ []
 stands (form.Quoted quoted.TextEscape) = (kind.String, StringTail true ∷ the 34 ∷ []) ∷ []
-stands (form.Quoted quoted.Block) = block_left 0 false
-stands (form.Quoted quoted.BlockQuote) = block_left 1 false
-stands (form.Quoted quoted.BlockTwoQuotes) = block_left 2 false
-stands (form.Quoted quoted.BlockEscape) = block_left 0 true
+stands (form.Quoted quoted.Block) = block_left Characters
+stands (form.Quoted quoted.BlockQuote) = block_left Quote
+stands (form.Quoted quoted.BlockTwoQuotes) = block_left TwoQuotes
+stands (form.Quoted quoted.BlockEscape) = block_left Backslash
 stands (form.Quoted quoted.Character) = (kind.Character, the 39 ∷ []) ∷ []
 stands (form.Quoted q) = behind (quoted_text q) literals
 

@@ -1,3 +1,4 @@
+pub mod BlockRest
 pub mod Derive
 pub mod FormLemmas
 pub mod States
@@ -9,3 +10,5 @@ pub mod EscapeLemmas
 pub mod CutLemmas
 pub mod BlockLemmas
 pub mod LexLemmas
+pub mod FitLemmas
+pub mod SoundLemmas

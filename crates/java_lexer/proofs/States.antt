@@ -2,7 +2,8 @@
 use Rattle.std.proofs.Common.{◌≡◌, ℕ, ◌<◌, Bool, true, false, ◌&&◌, List, [], ◌∷◌, map, Option, Some, None, if◌then◌else◌, refl, sym, ◌∙◌, ap, arith, inl, inr}
 use Rattle.std.proofs.lemmas.Bool.{cases_lt}
 use Rattle.std.specs.Char.Utf16.{is_high_surrogate, is_low_surrogate, surrogate_pair_char}
-use Rattle.java_text.specs.Letters.{is_start, is_part, is_ascii_start}
+use Rattle.java_text.specs.Letters.{is_start, is_part}
+use Rattle.java_text.specs.Ascii.{is_ascii_start}
 use Rattle.java_text.proofs.LetterLemmas.{ascii_start}
 use Rattle.java_lexer.specs.declared.kind.Kind.{Kind}
 use Rattle.java_lexer.specs.declared.kind.Kind.TheVariants as kind

@@ -1,5 +1,8 @@
--- What `cut_pieces` answers.
-use Rattle.std.specs.Prelude.{◌≡◌, ℕ, ◌≤◌, List, length, take, drop, false}
+-- What private functions do that cut a text. Only their contracts cite it.
+use Rattle.std.specs.Prelude.{◌≡◌, ℕ, ◌≤◌, Bool, ◌==◌, List, [], ◌∷◌, length, take, drop, false, Option, Some, None}
+use Rattle.java_token.specs.declared.token.Token.{Token}
+use Rattle.java_token.specs.declared.token.TokenKind.{TokenKind}
+use Rattle.java_text.specs.declared.character.TheConstants.{CARRIAGE_RETURN}
 use Rattle.java_lexer.specs.declared.cut.Cut.{Cut}
 use Rattle.java_lexer.specs.Lexing.{cut_of, line_ends}
 
@@ -11,3 +14,13 @@ pub record IsCut (units : List ℕ) (cut : Cut) : Type 0 where
   pub within : cut.at ≤ length units
   pub counted : cut.line_ends ≡ line_ends false (take cut.at units)
   pub bound : cut.line_ends ≤ cut.at
+
+-- how the units end: in a CR, or as before if there are none
+unfoldable pub ends_in_return : Bool → List ℕ → Bool
+ends_in_return after_return [] = after_return
+ends_in_return after_return (c ∷ units) = ends_in_return (c == CARRIAGE_RETURN) units
+
+-- the token of a piece on a line, if it is one
+abbrev pub tokens_at : Option TokenKind → ℕ → List Token
+tokens_at None line = []
+tokens_at (Some kind) line = record { kind = kind; line = line } ∷ []

@@ -2,6 +2,7 @@
 use Rattle.std.specs.Prelude.{ℕ, zero, suc, ◌+◌, Bool, false, ◌&&◌, ◌||◌, not, ◌==◌, List, [], ◌∷◌, ◌++◌, length, take, drop, Option, Some, None, Result, Ok, Err, if◌then◌else◌}
 use Rattle.java_token.specs.declared.token.Token.{Token}
 use Rattle.java_token.specs.declared.token.TokenKind.{TokenKind}
+use Rattle.java_text.specs.declared.character.TheConstants.{CARRIAGE_RETURN, LINE_FEED}
 use Rattle.java_text.specs.Source.{text_of, is_all_utf8}
 use Rattle.java_lexer.specs.declared.kind.Kind.{Kind}
 use Rattle.java_lexer.specs.declared.fault.LexFault.{LexFault}
@@ -13,7 +14,8 @@ use Rattle.java_lexer.specs.Tokens.{token_of}
 -- CR stands right before them
 unfoldable pub line_ends : Bool → List ℕ → ℕ
 line_ends after_return [] = 0
-line_ends after_return (c ∷ units) = (if c == 13 || (c == 10 && not after_return) then 1 else 0) + line_ends (c == 13) units
+line_ends after_return (c ∷ units) =
+    (if c == CARRIAGE_RETURN || (c == LINE_FEED && not after_return) then 1 else 0) + line_ends (c == CARRIAGE_RETURN) units
 
 -- the line of the place behind these units
 abbrev pub line_behind : List ℕ → ℕ
@@ -62,13 +64,3 @@ verdict cut whole = verdict_at cut.rest cut.tokens (line_behind cut.before) whol
 -- the tokens of the bytes, or the line and the kind of their bad place
 unfoldable pub lexed : List ℕ → Result (List Token) LexFault
 lexed bytes = verdict (cut_of (text_of bytes)) (is_all_utf8 bytes)
-
--- how the units end: in a CR, or as before if there are none
-unfoldable pub ends_in_return : Bool → List ℕ → Bool
-ends_in_return after_return [] = after_return
-ends_in_return after_return (c ∷ units) = ends_in_return (c == 13) units
-
--- the token of a piece on a line, if it is one
-abbrev pub tokens_at : Option TokenKind → ℕ → List Token
-tokens_at None line = []
-tokens_at (Some kind) line = record { kind = kind; line = line } ∷ []

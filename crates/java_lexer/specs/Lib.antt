@@ -10,3 +10,4 @@ pub mod Tokens
 pub mod Lexing
 pub mod Cutting
 pub mod Feeding
+pub mod Sound

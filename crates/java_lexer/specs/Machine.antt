@@ -1,5 +1,7 @@
 -- The machine that goes over a piece unit by unit. Only contracts of private functions cite it.
 use Rattle.std.specs.Prelude.{ℕ, ◌+◌, min, List, [], ◌∷◌, Bool, ◌&&◌, ◌||◌, ◌==◌, nat_le, Option, Some, None, if◌then◌else◌}
+use Rattle.std.specs.Char
+use Rattle.std.specs.Char.{is_ascii_digit, is_ascii_hexdigit}
 use Rattle.java_token.specs.declared.operator.OpTok.{OpTok}
 use Rattle.java_token.specs.declared.operator.OpTok.TheVariants as op
 use Rattle.java_lexer.specs.declared.kind.Kind.{Kind}
@@ -16,18 +18,18 @@ use Rattle.java_lexer.specs.declared.quoted.Quoted.{Quoted}
 use Rattle.java_lexer.specs.declared.quoted.Quoted.TheVariants as quoted
 
 abbrev pub is_digit : ℕ → Bool
-is_digit c = nat_le 48 c && nat_le c 57
+is_digit c = is_ascii_digit c
 
 abbrev pub is_octal : ℕ → Bool
-is_octal c = nat_le 48 c && nat_le c 55
+is_octal c = Char.is_digit c 8
 
 abbrev pub is_hex : ℕ → Bool
-is_hex c = is_digit c || ((nat_le 97 c && nat_le c 102) || (nat_le 65 c && nat_le c 70))
+is_hex c = is_ascii_hexdigit c
 
 -- numbers
 
 abbrev pub after_exponent_digits : ℕ → Option Form
-after_exponent_digits c = if ((c == 102 || c == 70) || c == 100) || c == 68 then Some (form.Closed kind.Real) else None
+after_exponent_digits c = if ((c == 102 || c == 70) || c == 100) || c == 68 then Some (form.Closed kind.FloatingPoint) else None
 
 abbrev pub after_fraction : ℕ → Option Form
 after_fraction c = if c == 101 || c == 69 then Some (form.Number number.Exponent) else after_exponent_digits c
@@ -145,9 +147,9 @@ number_kind number.Octal = Some kind.Integer
 number_kind number.Decimal = Some kind.Integer
 number_kind number.Hex = Some kind.Integer
 number_kind number.Binary = Some kind.Integer
-number_kind number.Point = Some kind.Real
-number_kind number.Fraction = Some kind.Real
-number_kind number.ExponentDigits = Some kind.Real
+number_kind number.Point = Some kind.FloatingPoint
+number_kind number.Fraction = Some kind.FloatingPoint
+number_kind number.ExponentDigits = Some kind.FloatingPoint
 number_kind _ = None
 
 -- quotations
@@ -186,7 +188,7 @@ after_block quoted.BlockOpening c = if (c == 32 || c == 9) || c == 12 then Some 
     else (if c == 10 || c == 13 then Some (form.Quoted quoted.Block) else None)
 after_block quoted.Block c = block_symbol c (form.Quoted quoted.BlockQuote)
 after_block quoted.BlockQuote c = block_symbol c (form.Quoted quoted.BlockTwoQuotes)
-after_block quoted.BlockTwoQuotes c = block_symbol c (form.Closed kind.Block)
+after_block quoted.BlockTwoQuotes c = block_symbol c (form.Closed kind.TextBlock)
 after_block _ c = if (begins_escape c || c == 10) || c == 13 then Some (form.Quoted quoted.Block) else None
 
 abbrev pub after_character : Quoted → ℕ → Option Form

@@ -1,5 +1,6 @@
 -- Which pieces a text has, by longest match (JLS 3.2).
 use Rattle.std.specs.Prelude.{ℕ, zero, suc, Bool, List, length, take, Option, Some, None, slice_index, ◌&&◌, ◌==◌, if◌then◌else◌}
+use Rattle.java_text.specs.declared.character.TheConstants.{ASTERISK, SLASH}
 use Rattle.java_lexer.specs.declared.kind.Kind.{Kind}
 use Rattle.java_lexer.specs.declared.kind.Kind.TheVariants as kind
 use Rattle.java_lexer.specs.Grammar.{kind_by, grammar, comment}
@@ -25,7 +26,7 @@ longest kind units = longest_up_to kind (length units) units
 
 -- `/*` stands at the front
 abbrev pub opens_comment : List ℕ → Bool
-opens_comment units = slice_index units 0 == 47 && slice_index units 1 == 42
+opens_comment units = slice_index units 0 == SLASH && slice_index units 1 == ASTERISK
 
 -- The piece at the front: the longest front that is one. At `/*` only a comment is a piece.
 unfoldable pub piece_at : List ℕ → Option (ℕ × Kind)

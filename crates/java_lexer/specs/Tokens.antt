@@ -1,6 +1,6 @@
 -- The token that a piece is.
 use Rattle.std.specs.Prelude.{ℕ, List, Option, Some, None}
-use Rattle.hdr_core.specs.ModifiedUtf8.{modified_utf8}
+use Rattle.java_names.specs.ModifiedUtf8.{modified_utf8}
 use Rattle.java_token.specs.declared.keyword.Kw.{Kw}
 use Rattle.java_token.specs.declared.token.LexLit.TheVariants.{Char, Str}
 use Rattle.java_token.specs.declared.token.TokenKind.{TokenKind}
@@ -25,8 +25,8 @@ abbrev pub token_of : Kind → List ℕ → Option TokenKind
 token_of kind.Blank units = None
 token_of kind.Word units = Some (word_of (modified_utf8 units))
 token_of kind.Integer units = Some (Lit (integer_of units))
-token_of kind.Real units = Some (Lit (real_of units))
+token_of kind.FloatingPoint units = Some (Lit (real_of units))
 token_of kind.Character units = Some (Lit (Char (character_unit units)))
 token_of kind.String units = Some (Lit (Str (modified_utf8 (string_units units))))
-token_of kind.Block units = Some (Lit (Str (modified_utf8 (block_units units))))
+token_of kind.TextBlock units = Some (Lit (Str (modified_utf8 (block_units units))))
 token_of (kind.Operator operator) units = Some (Op operator)

@@ -1,16 +1,13 @@
 //! Text blocks (JLS 3.10.6).
 ghost use Rattle.std.specs.Prelude.{◌≡◌, ◌≤◌, ◌+◌, ◌-◌, ◌==◌, ◌∷◌, ◌++◌, ℕ, List, IfOk, length, take, drop, min, false, if◌then◌else◌};
-ghost use Rattle.hdr_core.specs.ModifiedUtf8.{modified_utf8 as modified};
+ghost use Rattle.java_names.specs.ModifiedUtf8.{modified_utf8 as modified};
 ghost use Rattle.java_lexer.specs.Blocks as spec;
 
 use crate::escape::unescape;
 use hdr_core::{Memory, Text};
-use java_text::{is_white, modified_utf8};
+use java_names::modified_utf8;
+use java_text::{CARRIAGE_RETURN, LINE_FEED, is_white};
 use std::alloc::Global;
-
-const LINE_FEED: u16 = 0x0A;
-
-const RETURN: u16 = 0x0D;
 
 /// The text that a text block stands for.
 pub fn block_text(alloc: Global, units: &[u16]) -> Result<Text, Memory>
@@ -44,13 +41,17 @@ fn push_unified(unified: &mut Vec<u16>, unit: u16, after_return: bool) -> Result
         return Ok(false);
     }
     unified.push(unified_unit(unit))?;
-    Ok(unit == RETURN)
+    Ok(unit == CARRIAGE_RETURN)
 }
 
 fn unified_unit(unit: u16) -> u16
-    ensures { result ≡ (if unit == 13 then 10 else unit) }
+    ensures { result ≡ (if unit == CARRIAGE_RETURN then LINE_FEED else unit) }
 {
-    if unit == RETURN { LINE_FEED } else { unit }
+    if unit == CARRIAGE_RETURN {
+        LINE_FEED
+    } else {
+        unit
+    }
 }
 
 /// What stands behind the first line feed.

@@ -1,19 +1,16 @@
 //! The pieces of a text (JLS 3.2, 3.4).
 ghost use Rattle.std.specs.Prelude.{◌≡◌, ◌≤◌, ◌<◌, ◌+◌, ◌^◌, ◌-◌, ◌++◌, ◌==◌, ◌||◌, ◌&&◌, not, if◌then◌else◌, IfOk, OnOk, length, take, drop};
-ghost use Rattle.java_lexer.specs.Lexing.{cut_of, ends_in_return, line_ends, tokens_at};
+ghost use Rattle.java_lexer.specs.Lexing.{line_ends};
 ghost use Rattle.java_lexer.specs.Tokens.{token_of};
-ghost use Rattle.java_lexer.specs.Cutting.{IsCut};
+ghost use Rattle.java_lexer.specs.Cutting.{IsCut, ends_in_return, tokens_at};
 
 use crate::kind::Kind;
 use crate::state::piece_at;
 use crate::token::token;
 use hdr_core::Memory;
+use java_text::{CARRIAGE_RETURN, LINE_FEED};
 use java_token::Token;
 use std::alloc::Global;
-
-const LINE_FEED: u16 = 0x0A;
-
-const RETURN: u16 = 0x0D;
 
 /// How far a text can be cut into pieces.
 #[derive(Drop)]
@@ -107,18 +104,19 @@ impl Place {
     /// The place behind one unit.
     fn step(self, unit: u16) -> Place
         requires { self.line_ends < 2 ^ 64 - 1 }
-        ensures ends { result.line_ends ≡ (if unit == 13 || (unit == 10 && not self.after_return) then 1 else 0) + self.line_ends }
-        ensures last { result.after_return ≡ (unit == 13) }
+        ensures ends { result.line_ends
+            ≡ (if unit == CARRIAGE_RETURN || (unit == LINE_FEED && not self.after_return) then 1 else 0) + self.line_ends }
+        ensures last { result.after_return ≡ (unit == CARRIAGE_RETURN) }
         ensures bound { result.line_ends ≤ self.line_ends + 1 }
     {
-        let ends = unit == RETURN || unit == LINE_FEED && !self.after_return;
+        let ends = unit == CARRIAGE_RETURN || unit == LINE_FEED && !self.after_return;
         Place {
             line_ends: if ends {
                 self.line_ends + 1
             } else {
                 self.line_ends
             },
-            after_return: unit == RETURN,
+            after_return: unit == CARRIAGE_RETURN,
         }
     }
 }

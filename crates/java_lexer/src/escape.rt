@@ -1,26 +1,37 @@
 //! The characters of literals, and their escapes (JLS 3.10.7).
-ghost use Rattle.std.specs.Prelude.{◌≡◌, ◌≤◌, ◌++◌, ◌∷◌, ◌-◌, IfOk, length, slice_index, true};
+ghost use Rattle.std.specs.Prelude.{◌≡◌, ◌≤◌, ◌++◌, IfOk, drop, slice_index, true};
 ghost use Rattle.java_lexer.specs.Escapes as spec;
-ghost use Rattle.java_lexer.specs.Escapes.{unescaped_from};
+ghost use Rattle.java_lexer.specs.Escapes.{first_item};
 
 use crate::units::at;
 use hdr_core::Memory;
+use java_text::{
+    APOSTROPHE, BACKSLASH, CARRIAGE_RETURN, FORM_FEED, LINE_FEED, QUOTATION_MARK, SPACE, TAB,
+};
 use std::alloc::Global;
 
-const BACKSLASH: u16 = 0x5C;
+/// The escapes of one letter or sign, and the unit that each stands for.
+pub const SIMPLE_ESCAPES: [(u16, u16); 9] = [
+    (b'b' as u16, 0x08),
+    (b's' as u16, SPACE),
+    (b't' as u16, TAB),
+    (b'n' as u16, LINE_FEED),
+    (b'f' as u16, FORM_FEED),
+    (b'r' as u16, CARRIAGE_RETURN),
+    (QUOTATION_MARK, QUOTATION_MARK),
+    (APOSTROPHE, APOSTROPHE),
+    (BACKSLASH, BACKSLASH),
+];
 
 /// The units with each escape replaced by what it stands for.
 pub fn unescape(alloc: Global, units: &[u16]) -> Result<Vec<u16>, Memory>
     ensures { IfOk result (λ plain. plain.items ≡ spec.unescaped units.now) }
 {
     let mut plain = Vec::with_capacity(alloc, units.len())?;
-    let mut skipped = 0;
-    for (index, unit) in units.iter().enumerate() {
-        if skipped > 0 {
-            skipped -= 1;
-        } else {
-            skipped = push_unescaped(&mut plain, *unit, &units[index + 1..])?;
-        }
+    let mut at = 0;
+    while at < units.len() {
+        let taken = push_item(&mut plain, units[at], &units[at + 1..])?;
+        at += 1 + taken;
     }
     Ok(plain)
 }
@@ -48,17 +59,18 @@ pub fn character(units: &[u16]) -> u16
     }
 }
 
-/// Pushes what the unit stands for, or the escape that it begins, and says how many of the units behind
-/// it are done.
-fn push_unescaped(plain: &mut Vec<u16>, unit: u16, after: &[u16]) -> Result<usize, Memory>
-    ensures { IfOk result (λ skipped. plain.new.items ++ unescaped_from skipped after.now
-        ≡ plain.old.items ++ unescaped_from 0 (unit ∷ after.now)) }
+/// Pushes what the unit stands for, or the escape that it begins, and says how many of the units after
+/// it belong to it.
+fn push_item(plain: &mut Vec<u16>, unit: u16, after: &[u16]) -> Result<usize, Memory>
+    ensures item { IfOk result (λ taken. (plain.new.items ≡ plain.old.items ++ (first_item unit after.now).0)
+        × (drop taken after.now ≡ (first_item unit after.now).1)) }
+    ensures few { IfOk result (λ taken. taken ≤ 3) }
 {
     if unit != BACKSLASH {
         plain.push(unit)?;
         return Ok(0);
     }
-    if at(after, 0) != b'\n' as u16 {
+    if at(after, 0) != LINE_FEED {
         plain.push(escape_value(after))?;
     }
     Ok(escape_length(after))
@@ -67,11 +79,18 @@ fn push_unescaped(plain: &mut Vec<u16>, unit: u16, after: &[u16]) -> Result<usiz
 fn is_octal(unit: u16) -> bool
     ensures { result ≡ spec.is_octal_digit unit }
 {
-    unit >= b'0' as u16 && unit <= b'7' as u16
+    matches!(unit, 0x30..=0x37)
+}
+
+fn is_zero_to_three(unit: u16) -> bool
+    ensures { result ≡ spec.is_zero_to_three unit }
+{
+    matches!(unit, 0x30..=0x33)
 }
 
 fn escape_length(units: &[u16]) -> usize
-    ensures { result ≡ spec.escape_length units.now }
+    ensures value { result ≡ spec.escape_length units.now }
+    ensures few { result ≤ 3 }
 {
     if is_octal(at(units, 0)) {
         octal_length(units)
@@ -81,11 +100,12 @@ fn escape_length(units: &[u16]) -> usize
 }
 
 fn octal_length(units: &[u16]) -> usize
-    ensures { result ≡ spec.octal_length units.now }
+    ensures value { result ≡ spec.octal_length units.now }
+    ensures few { result ≤ 3 }
 {
     if !is_octal(at(units, 1)) {
         1
-    } else if at(units, 0) <= b'3' as u16 && is_octal(at(units, 2)) {
+    } else if is_zero_to_three(at(units, 0)) && is_octal(at(units, 2)) {
         3
     } else {
         2
@@ -99,7 +119,7 @@ fn escape_value(units: &[u16]) -> u16
     if is_octal(first) {
         octal_value(units)
     } else {
-        simple_value(first)
+        look_up(&SIMPLE_ESCAPES, first)
     }
 }
 
@@ -107,8 +127,8 @@ fn octal_value(units: &[u16]) -> u16
     requires { spec.is_octal_digit (slice_index units.now 0) ≡ true }
     ensures { result ≡ spec.octal_value units.now }
 {
-    let first = at(units, 0) - 48;
     let length = octal_length(units);
+    let first = octal_digit(units, 0);
     if length == 3 {
         (first * 8 + octal_digit(units, 1)) * 8 + octal_digit(units, 2)
     } else if length == 2 {
@@ -118,24 +138,22 @@ fn octal_value(units: &[u16]) -> u16
     }
 }
 
-fn octal_digit(units: &[u16], index: usize) -> u16
-    requires { spec.is_octal_digit (slice_index units.now index) ≡ true }
-    ensures value { result ≡ slice_index units.now index - 48 }
+fn octal_digit(units: &[u16], place: usize) -> u16
+    requires { spec.is_octal_digit (slice_index units.now place) ≡ true }
+    ensures value { result ≡ spec.octal_digit units.now place }
     ensures bound { result ≤ 7 }
 {
-    at(units, index) - 48
+    at(units, place) - 0x30
 }
 
-fn simple_value(unit: u16) -> u16
-    ensures { result ≡ spec.simple_value unit }
+/// What the table has for a unit: without an entry it stands for itself.
+fn look_up(entries: &[(u16, u16)], unit: u16) -> u16
+    ensures { result ≡ spec.look_up entries.now unit }
 {
-    match unit {
-        0x62 => 0x08,
-        0x73 => 0x20,
-        0x74 => 0x09,
-        0x6E => 0x0A,
-        0x66 => 0x0C,
-        0x72 => 0x0D,
-        _ => unit,
+    for (sign, value) in entries {
+        if unit == *sign {
+            return *value;
+        }
     }
+    unit
 }

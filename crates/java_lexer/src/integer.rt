@@ -1,10 +1,10 @@
 //! What numbers stand for.
-ghost use Rattle.std.specs.Prelude.{◌≡◌, ◌≤◌, ◌<◌, ◌-◌, length, true, ◌+◌, ◌*◌, ◌^◌};
+ghost use Rattle.std.specs.Prelude.{◌≡◌, ◌≤◌, ◌<◌, ◌^◌};
 ghost use Rattle.std.specs.Option.{SomeIff};
-ghost use Rattle.java_text.specs.Source.{hex_value, is_hex_digit};
 ghost use Rattle.java_lexer.specs.Numbers as spec;
 
 use crate::units::at;
+use java_text::hex_digit;
 use java_token::LexLit;
 
 /// The integer literal of these units (JLS 3.10.1).
@@ -80,41 +80,21 @@ fn number(radix: u64, units: &[u16]) -> Option<u64>
 {
     let mut number: u64 = 0;
     for unit in units {
-        if is_hex(*unit) {
-            match with_digit(number, radix, digit(*unit)) {
-                Some(longer) => number = longer,
-                None => return None,
-            }
+        match with_unit(number, radix, *unit) {
+            Some(longer) => number = longer,
+            None => return None,
         }
     }
     Some(number)
 }
 
-/// The number with one more digit, if 64 bits hold it.
-fn with_digit(number: u64, radix: u64, digit: u16) -> Option<u64>
-    ensures { SomeIff result (number * radix + digit < 2 ^ 64) (number * radix + digit) }
+/// The number with the digit that a unit is, if it is one, and if 64 bits hold it.
+fn with_unit(number: u64, radix: u64, unit: u16) -> Option<u64>
+    ensures { SomeIff result (spec.with_unit radix number unit < 2 ^ 64)
+        (spec.with_unit radix number unit) }
 {
-    match number.checked_mul(radix) {
-        Some(product) => product.checked_add(digit as u64),
-        None => None,
-    }
-}
-
-fn is_hex(unit: u16) -> bool
-    ensures { result ≡ is_hex_digit unit }
-{
-    matches!(unit, 48..=57 | 97..=102 | 65..=70)
-}
-
-fn digit(unit: u16) -> u16
-    requires { is_hex_digit unit ≡ true }
-    ensures { result ≡ hex_value unit }
-{
-    if unit <= 57 {
-        unit - 48
-    } else if unit <= 70 {
-        unit - 55
-    } else {
-        unit - 87
+    match hex_digit(unit) {
+        Some(digit) => number.checked_mul(radix)?.checked_add(digit as u64),
+        None => Some(number),
     }
 }

@@ -10,13 +10,13 @@ pub enum Kind {
     /// An integer literal (JLS 3.10.1).
     Integer,
     /// A floating-point literal (JLS 3.10.2).
-    Real,
+    FloatingPoint,
     /// A character literal (JLS 3.10.4).
     Character,
     /// A string literal (JLS 3.10.5).
     String,
     /// A text block (JLS 3.10.6).
-    Block,
+    TextBlock,
     /// A separator or an operator (JLS 3.11, 3.12).
     Operator(OpTok),
 }

@@ -95,8 +95,8 @@ impl Lexer {
     }
 }
 
-/// The tokens of the bytes.
-fn lex(alloc: Global, bytes: &[u8]) -> Result<Vec<Token>, LexErr>
+/// The tokens of the bytes of a source (JLS chapter 3), or the line and the kind of its bad place.
+pub fn lex(alloc: Global, bytes: &[u8]) -> Result<Vec<Token>, LexErr>
     requires { length bytes.now < 2 ^ 32 }
     ensures { MatchResult result (λ tokens. lexed bytes.now ≡ Ok tokens.items) (λ e. IfFault e (λ f. lexed bytes.now ≡ Err f)) }
 {

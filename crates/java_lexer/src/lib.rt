@@ -9,8 +9,10 @@ mod form;
 mod integer;
 mod keyword;
 mod kind;
+mod laws;
 mod lexer;
 mod number;
+mod operator;
 mod quoted;
 mod standing;
 mod state;
@@ -19,4 +21,6 @@ mod units;
 
 pub use fault::{LexErr, LexFault, LexKind};
 pub use java_token::{Kw, LexLit, OpTok, Token, TokenKind};
-pub use lexer::Lexer;
+pub use laws::tokens_are_sound;
+pub use lexer::{Lexer, lex};
+pub use operator::OPERATORS;

@@ -74,7 +74,7 @@ impl Number {
             Number::Zero | Number::Octal | Number::Decimal | Number::Hex | Number::Binary => {
                 Some(Kind::Integer)
             }
-            Number::Point | Number::Fraction | Number::ExponentDigits => Some(Kind::Real),
+            Number::Point | Number::Fraction | Number::ExponentDigits => Some(Kind::FloatingPoint),
             _ => None,
         }
     }
@@ -320,7 +320,7 @@ fn after_exponent_digits(symbol: u8) -> Option<Form>
     ensures { result ≡ machine.after_exponent_digits symbol }
 {
     if symbol == b'f' || symbol == b'F' || symbol == b'd' || symbol == b'D' {
-        Some(Form::Closed(Kind::Real))
+        Some(Form::Closed(Kind::FloatingPoint))
     } else {
         None
     }
@@ -363,17 +363,17 @@ fn binary_exponent(symbol: u8) -> Option<Form>
 fn is_digit(symbol: u8) -> bool
     ensures { result ≡ machine.is_digit symbol }
 {
-    symbol >= b'0' && symbol <= b'9'
+    symbol.is_ascii_digit()
 }
 
 pub fn is_octal(symbol: u8) -> bool
     ensures { result ≡ machine.is_octal symbol }
 {
-    symbol >= b'0' && symbol <= b'7'
+    matches!(symbol, b'0'..=b'7')
 }
 
 fn is_hex(symbol: u8) -> bool
     ensures { result ≡ machine.is_hex symbol }
 {
-    matches!(symbol, b'0'..=b'9' | b'a'..=b'f' | b'A'..=b'F')
+    symbol.is_ascii_hexdigit()
 }

@@ -111,7 +111,7 @@ impl Quoted {
             }
             Quoted::Block => block_symbol(symbol, Form::Quoted(Quoted::BlockQuote)),
             Quoted::BlockQuote => block_symbol(symbol, Form::Quoted(Quoted::BlockTwoQuotes)),
-            Quoted::BlockTwoQuotes => block_symbol(symbol, Form::Closed(Kind::Block)),
+            Quoted::BlockTwoQuotes => block_symbol(symbol, Form::Closed(Kind::TextBlock)),
             _ => {
                 if begins_escape(symbol) || symbol == b'\n' || symbol == b'\r' {
                     Some(Form::Quoted(Quoted::Block))

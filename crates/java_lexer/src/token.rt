@@ -1,6 +1,6 @@
 //! The token of a piece.
 ghost use Rattle.std.specs.Prelude.{◌≡◌, IfOk};
-ghost use Rattle.hdr_core.specs.ModifiedUtf8.{modified_utf8 as modified};
+ghost use Rattle.java_names.specs.ModifiedUtf8.{modified_utf8 as modified};
 ghost use Rattle.java_lexer.specs.Escapes.{string_units};
 ghost use Rattle.java_lexer.specs.Tokens.{token_of, word_of};
 
@@ -10,7 +10,7 @@ use crate::integer::{integer, real};
 use crate::keyword::keyword;
 use crate::kind::Kind;
 use hdr_core::{Memory, Text};
-use java_text::modified_utf8;
+use java_names::modified_utf8;
 use java_token::{LexLit, TokenKind};
 use std::alloc::Global;
 
@@ -22,10 +22,10 @@ pub fn token(alloc: Global, kind: Kind, units: &[u16]) -> Result<Option<TokenKin
         Kind::Blank => Ok(None),
         Kind::Word => Ok(Some(word(alloc, units)?)),
         Kind::Integer => Ok(Some(TokenKind::Lit(integer(units)))),
-        Kind::Real => Ok(Some(TokenKind::Lit(real(units)))),
+        Kind::FloatingPoint => Ok(Some(TokenKind::Lit(real(units)))),
         Kind::Character => Ok(Some(TokenKind::Lit(LexLit::Char(character(units))))),
         Kind::String => Ok(Some(TokenKind::Lit(LexLit::Str(string_text(alloc, units)?)))),
-        Kind::Block => Ok(Some(TokenKind::Lit(LexLit::Str(block_text(alloc, units)?)))),
+        Kind::TextBlock => Ok(Some(TokenKind::Lit(LexLit::Str(block_text(alloc, units)?)))),
         Kind::Operator(operator) => Ok(Some(TokenKind::Op(operator))),
     }
 }

@@ -1,6 +1,7 @@
 use Rattle.std.proofs.Common.{◌≡◌, ◌+◌, ◌-◌, ◌∙◌, sym, ap, refl, arith, take, drop, length-drop}
 use Rattle.std.proofs.lemmas.List.{take_rest, length-take}
-use Rattle.java_lexer.specs.Lexing.{Cut, line_behind, line_ends, ends_in_return}
+use Rattle.java_lexer.specs.Lexing.{Cut, line_behind, line_ends}
+use Rattle.java_lexer.specs.Cutting.{ends_in_return}
 use Rattle.java_lexer.proofs.CutLemmas.{behind_tokens, cut_at, cut_step, cut_stops, cut_ends, line_ends_further, ends_in_return_further}
 use Rattle.java_lexer.proofs.cut.cut_pieces.Goals as goal
 

@@ -1,5 +1,6 @@
 use Rattle.std.proofs.Common.{◌≡◌, ◌≤◌, ◌-◌, take, length, false}
-use Rattle.java_lexer.specs.Lexing.{cut_of, line_ends, ends_in_return}
+use Rattle.java_lexer.specs.Lexing.{cut_of, line_ends}
+use Rattle.java_lexer.specs.Cutting.{ends_in_return}
 use Rattle.java_lexer.proofs.CutLemmas.{behind_tokens, cut_at}
 use Rattle.java_lexer.proofs.cut.cut_pieces.Given as goal
 

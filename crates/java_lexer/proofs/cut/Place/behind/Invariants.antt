@@ -1,5 +1,6 @@
 use Rattle.std.proofs.Common.{◌≡◌, ◌≤◌, ◌+◌, drop}
-use Rattle.java_lexer.specs.Lexing.{line_ends, ends_in_return}
+use Rattle.java_lexer.specs.Lexing.{line_ends}
+use Rattle.java_lexer.specs.Cutting.{ends_in_return}
 use Rattle.java_lexer.proofs.cut.Place.behind.Given as goal
 
 -- the line terminators so far, and then those that are left
