@@ -5,7 +5,8 @@ use Rattle.segments.specs.declared.bracket.Pair.{Pair}
 use Rattle.segments.specs.declared.bracket.Pair.TheVariants.{Parentheses, Brackets, Braces}
 use Rattle.segments.specs.declared.bracket.Mark.{Mark}
 use Rattle.segments.specs.declared.bracket.Mark.TheVariants.{Opening, Closing, Plain}
-use Rattle.segments.specs.Brackets.{mark_of, same_pair, Bracket, bracket_of, is_closed_by, unpaired}
+use Rattle.segments.specs.Brackets.{mark_of, same_pair}
+use Rattle.segments.proofs.Unpaired.{Bracket, bracket_of, is_closed_by, unpaired}
 
 pub data Forest : Type 0 where
   Nothing : Forest
@@ -44,7 +45,7 @@ pair_of_same Braces Parentheses e = cc
 pair_of_same Braces Brackets e = cc
 pair_of_same Braces Braces e = refl
 
-closes_own : (p : Pair) (m : Mark) → is_closed_by p m ≡ true → m ≡ Closing p
+pub closes_own : (p : Pair) (m : Mark) → is_closed_by p m ≡ true → m ≡ Closing p
 closes_own p (Opening q) e = cc
 closes_own p (Closing q) e = ap Closing (sym (pair_of_same p q e))
 closes_own p Plain e = cc

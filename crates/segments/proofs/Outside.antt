@@ -9,17 +9,18 @@ use Rattle.segments.specs.declared.segment.Segment.{Segment}
 use Rattle.segments.specs.declared.segment.SegEnd.{SegEnd}
 use Rattle.segments.specs.declared.segment.SegEnd.TheVariants.{Semi, Body, Skipped}
 use Rattle.segments.specs.declared.level.Level.{Level}
-use Rattle.segments.specs.declared.cutter.Cutter.{Cutter}
-use Rattle.segments.specs.declared.cutter.Open.{Open}
+use Rattle.segments.proofs.LevelModel.{Cutter}
+use Rattle.segments.proofs.LevelModel.{Open}
 use Rattle.segments.specs.declared.cutter.Place.TheVariants as place
-use Rattle.segments.specs.declared.cutter.Group.TheVariants as group
+use Rattle.segments.proofs.GroupKinds as group
 use Rattle.segments.specs.Brackets.{mark_of}
 use Rattle.segments.specs.Words.{is_semicolon, is_assign, is_default}
 use Rattle.segments.specs.Cut.{Piece, pieces, is_end, begins, last_begins, opens_braces, mark_is_braces, braces_alone, head_of, is_class_head, line_of, without_last, segment_of, tail_of, cut_by, cut_within, first_some, depth_of, deep_by, deep_beyond}
 use Rattle.segments.specs.Places.{between, behind}
 use Rattle.segments.specs.Segmentwise.{is_assigned, ends, between_ends, behind_ends}
 use Rattle.segments.specs.Levels.{fresh, stored, ended, segments_of}
-use Rattle.segments.specs.Steps.{entry, place_in, is_ending, or_else, first_line_or, noted_deep, skipping, body, ending, behind_default, opened_in_head, step, run}
+use Rattle.segments.specs.Steps.{place_in, is_ending, or_else, first_line_or}
+use Rattle.segments.proofs.LevelModel.{entry, noted_deep, skipping, body, ending, behind_default, opened_in_head, step, run}
 use Rattle.segments.proofs.Forests.{Forest, Nothing, Single, Group, flat}
 use Rattle.segments.proofs.Pieces.{pieces_of}
 use Rattle.segments.proofs.Places.{parts_flat, left_flat}
@@ -312,7 +313,7 @@ pub level_segments : (m : ℕ) (i : Forest)
     → segments_of (level_of m (map (segment_of (body_within m)) (between_ends [] (pieces_of i))) (behind_ends [] (pieces_of i))) ≡ cut_within m (flat i)
 level_segments m i =
     ap (λ xs. map (segment_of (body_within m)) xs ++ tail_of (head_of (behind_ends [] (pieces_of i)))) (sym (parts_flat i))
-    ∙ ap (λ ys. map (segment_of (body_within m)) (between is_end [] [] (pieces (flat i))) ++ tail_of (head_of ys)) (sym (left_flat i))
+    ∙ ap (λ ys. map (segment_of (body_within m)) (between is_end (pieces (flat i))) ++ tail_of (head_of ys)) (sym (left_flat i))
     ∙ sym (cut_by_body m (flat i))
 
 pub level_deep : (m : ℕ) (i : Forest) → first_some (map (depth_of (deep_within m)) (between_ends [] (pieces_of i))) ≡ deep_beyond m (flat i)

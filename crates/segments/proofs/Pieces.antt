@@ -7,7 +7,7 @@ use Rattle.segments.specs.declared.bracket.Mark.{Mark}
 use Rattle.segments.specs.declared.bracket.Mark.TheVariants.{Opening, Closing, Plain}
 use Rattle.segments.specs.Brackets.{mark_of, is_opening, is_closing, count, opens, closes, is_outside}
 use Rattle.segments.specs.Cut.{Piece, pieces, whole, is_outside_behind}
-use Rattle.segments.specs.Places.{between}
+use Rattle.segments.proofs.Parts.{between_from, between_is}
 use Rattle.segments.proofs.Forests.{Forest, Nothing, Single, Group, flat}
 
 abbrev pub pieces_of : Forest → List Piece
@@ -163,22 +163,22 @@ even_outside : (all : List Token) → is_outside all ≡ true → Even all []
 unfolding is_outside
 even_outside all e = let f = eqb-true (opens all) (closes all) e in omega arith
 
-pieces_are : (ts all before : List Token) → Even all before → map whole (between is_outside_behind all before ts) ≡ pieces_from before ts
+pieces_are : (ts all before : List Token) → Even all before → map whole (between_from is_outside_behind all before ts) ≡ pieces_from before ts
 pieces_are [] all before h = refl
 pieces_are (t ∷ ts) all before h = by (is_outside (before ++ t ∷ [])) refl (pieces_are ts) where
   same : is_outside (all ++ t ∷ []) ≡ is_outside (before ++ t ∷ [])
   same = same_outside (all ++ t ∷ []) (before ++ t ∷ []) (even_more all before t h)
 
-  by : (b : Bool) → is_outside (before ++ t ∷ []) ≡ b → ((all before : List Token) → Even all before → map whole (between is_outside_behind all before ts) ≡ pieces_from before ts)
-      → map whole (between is_outside_behind all before (t ∷ ts)) ≡ pieces_from before (t ∷ ts)
+  by : (b : Bool) → is_outside (before ++ t ∷ []) ≡ b → ((all before : List Token) → Even all before → map whole (between_from is_outside_behind all before ts) ≡ pieces_from before ts)
+      → map whole (between_from is_outside_behind all before (t ∷ ts)) ≡ pieces_from before (t ∷ ts)
   by true e more =
-      ap (λ b. map whole (cond b ((before, t) ∷ between is_outside_behind (all ++ t ∷ []) [] ts) (between is_outside_behind (all ++ t ∷ []) (before ++ t ∷ []) ts))) (same ∙ e)
+      ap (λ b. map whole (cond b ((before, t) ∷ between_from is_outside_behind (all ++ t ∷ []) [] ts) (between_from is_outside_behind (all ++ t ∷ []) (before ++ t ∷ []) ts))) (same ∙ e)
       ∙ ap (λ x. (before ++ t ∷ []) ∷ x) (more (all ++ t ∷ []) [] (even_outside (all ++ t ∷ []) (same ∙ e)))
       ∙ sym (ap (λ b. cond b ((before ++ t ∷ []) ∷ pieces_from [] ts) (pieces_from (before ++ t ∷ []) ts)) e)
   by false e more =
-      ap (λ b. map whole (cond b ((before, t) ∷ between is_outside_behind (all ++ t ∷ []) [] ts) (between is_outside_behind (all ++ t ∷ []) (before ++ t ∷ []) ts))) (same ∙ e)
+      ap (λ b. map whole (cond b ((before, t) ∷ between_from is_outside_behind (all ++ t ∷ []) [] ts) (between_from is_outside_behind (all ++ t ∷ []) (before ++ t ∷ []) ts))) (same ∙ e)
       ∙ more (all ++ t ∷ []) (before ++ t ∷ []) (even_more all before t h)
       ∙ sym (ap (λ b. cond b ((before ++ t ∷ []) ∷ pieces_from [] ts) (pieces_from (before ++ t ∷ []) ts)) e)
 
 pub pieces_flat : (f : Forest) → pieces (flat f) ≡ pieces_of f
-pieces_flat f = pieces_are (flat f) [] [] refl ∙ pieces_from_flat f
+pieces_flat f = ap (map whole) (between_is is_outside_behind (flat f)) ∙ pieces_are (flat f) [] [] refl ∙ pieces_from_flat f

@@ -8,6 +8,7 @@ use Rattle.segments.specs.Words.{is_semicolon, is_assign, is_default, kind_is_se
 use Rattle.segments.specs.Cut.{Piece, pieces, begins, last_begins, opens_braces, mark_is_braces, last_is_assign, is_end}
 use Rattle.segments.specs.Segmentwise.{is_assigned, ends, between_ends, behind_ends}
 use Rattle.segments.specs.Places.{between, behind}
+use Rattle.segments.proofs.Parts.{between_from, behind_from, between_is, behind_is}
 use Rattle.segments.proofs.Forests.{Forest, flat}
 use Rattle.segments.proofs.Pieces.{pieces_of, pieces_flat}
 use Rattle.segments.proofs.Heads.{last_begins_end, is_assigned_end}
@@ -94,40 +95,47 @@ ended all before h p e = by (begins is_semicolon p) refl (begins opens_braces p)
       never : (x : Bool) → (false && x) ≡ true → ⊥
       never x e = cc
 
-pub same_between : (ps all before : List Piece) → Agree all before → between is_end all before ps ≡ between_ends before ps
+pub same_between : (ps all before : List Piece) → Agree all before → between_from is_end all before ps ≡ between_ends before ps
 same_between [] all before h = refl
 same_between (p ∷ ps) all before h = by (ends before p) refl (same_between ps) where
-  by : (b : Bool) → ends before p ≡ b → ((all before : List Piece) → Agree all before → between is_end all before ps ≡ between_ends before ps)
-      → between is_end all before (p ∷ ps) ≡ between_ends before (p ∷ ps)
+  by : (b : Bool) → ends before p ≡ b → ((all before : List Piece) → Agree all before → between_from is_end all before ps ≡ between_ends before ps)
+      → between_from is_end all before (p ∷ ps) ≡ between_ends before (p ∷ ps)
   by true e more =
-      ap (λ b. cond b ((before, p) ∷ between is_end (all ++ p ∷ []) [] ps) (between is_end (all ++ p ∷ []) (before ++ p ∷ []) ps)) (same_ends all before h p ∙ e)
+      ap (λ b. cond b ((before, p) ∷ between_from is_end (all ++ p ∷ []) [] ps) (between_from is_end (all ++ p ∷ []) (before ++ p ∷ []) ps)) (same_ends all before h p ∙ e)
       ∙ ap (λ x. (before, p) ∷ x) (more (all ++ p ∷ []) [] (ended all before h p e))
       ∙ sym (ap (λ b. cond b ((before, p) ∷ between_ends [] ps) (between_ends (before ++ p ∷ []) ps)) e)
   by false e more =
-      ap (λ b. cond b ((before, p) ∷ between is_end (all ++ p ∷ []) [] ps) (between is_end (all ++ p ∷ []) (before ++ p ∷ []) ps)) (same_ends all before h p ∙ e)
+      ap (λ b. cond b ((before, p) ∷ between_from is_end (all ++ p ∷ []) [] ps) (between_from is_end (all ++ p ∷ []) (before ++ p ∷ []) ps)) (same_ends all before h p ∙ e)
       ∙ more (all ++ p ∷ []) (before ++ p ∷ []) (going all before h p e)
       ∙ sym (ap (λ b. cond b ((before, p) ∷ between_ends [] ps) (between_ends (before ++ p ∷ []) ps)) e)
 
-pub same_behind : (ps all before : List Piece) → Agree all before → behind is_end all before ps ≡ behind_ends before ps
+pub same_behind : (ps all before : List Piece) → Agree all before → behind_from is_end all before ps ≡ behind_ends before ps
 same_behind [] all before h = refl
 same_behind (p ∷ ps) all before h = by (ends before p) refl (same_behind ps) where
-  by : (b : Bool) → ends before p ≡ b → ((all before : List Piece) → Agree all before → behind is_end all before ps ≡ behind_ends before ps)
-      → behind is_end all before (p ∷ ps) ≡ behind_ends before (p ∷ ps)
+  by : (b : Bool) → ends before p ≡ b → ((all before : List Piece) → Agree all before → behind_from is_end all before ps ≡ behind_ends before ps)
+      → behind_from is_end all before (p ∷ ps) ≡ behind_ends before (p ∷ ps)
   by true e more =
-      ap (λ b. cond b (behind is_end (all ++ p ∷ []) [] ps) (behind is_end (all ++ p ∷ []) (before ++ p ∷ []) ps)) (same_ends all before h p ∙ e)
+      ap (λ b. cond b (behind_from is_end (all ++ p ∷ []) [] ps) (behind_from is_end (all ++ p ∷ []) (before ++ p ∷ []) ps)) (same_ends all before h p ∙ e)
       ∙ more (all ++ p ∷ []) [] (ended all before h p e)
       ∙ sym (ap (λ b. cond b (behind_ends [] ps) (behind_ends (before ++ p ∷ []) ps)) e)
   by false e more =
-      ap (λ b. cond b (behind is_end (all ++ p ∷ []) [] ps) (behind is_end (all ++ p ∷ []) (before ++ p ∷ []) ps)) (same_ends all before h p ∙ e)
+      ap (λ b. cond b (behind_from is_end (all ++ p ∷ []) [] ps) (behind_from is_end (all ++ p ∷ []) (before ++ p ∷ []) ps)) (same_ends all before h p ∙ e)
       ∙ more (all ++ p ∷ []) (before ++ p ∷ []) (going all before h p e)
       ∙ sym (ap (λ b. cond b (behind_ends [] ps) (behind_ends (before ++ p ∷ []) ps)) e)
 
 pub nothing_before : Agree [] []
 nothing_before = record { assigned = refl; default_ = refl }
 
--- the ends of a forest
-pub parts_flat : (f : Forest) → between is_end [] [] (pieces (flat f)) ≡ between_ends [] (pieces_of f)
-parts_flat f = ap (between is_end [] []) (pieces_flat f) ∙ same_between (pieces_of f) [] [] nothing_before
+-- the ends of a list
+pub parts_are : (ps : List Piece) → between is_end ps ≡ between_ends [] ps
+parts_are ps = between_is is_end ps ∙ same_between ps [] [] nothing_before
 
-pub left_flat : (f : Forest) → behind is_end [] [] (pieces (flat f)) ≡ behind_ends [] (pieces_of f)
-left_flat f = ap (behind is_end [] []) (pieces_flat f) ∙ same_behind (pieces_of f) [] [] nothing_before
+pub left_is : (ps : List Piece) → behind is_end ps ≡ behind_ends [] ps
+left_is ps = behind_is is_end ps ∙ same_behind ps [] [] nothing_before
+
+-- the ends of a forest
+pub parts_flat : (f : Forest) → between is_end (pieces (flat f)) ≡ between_ends [] (pieces_of f)
+parts_flat f = ap (between is_end) (pieces_flat f) ∙ parts_are (pieces_of f)
+
+pub left_flat : (f : Forest) → behind is_end (pieces (flat f)) ≡ behind_ends [] (pieces_of f)
+left_flat f = ap (behind is_end) (pieces_flat f) ∙ left_is (pieces_of f)

@@ -5,16 +5,17 @@ use Rattle.segments.specs.declared.bracket.Pair.{Pair}
 use Rattle.segments.specs.declared.bracket.Pair.TheVariants.{Parentheses, Brackets, Braces}
 use Rattle.segments.specs.declared.bracket.Mark.TheVariants.{Opening, Closing, Plain}
 use Rattle.segments.specs.declared.level.Level.{Level}
-use Rattle.segments.specs.declared.cutter.Cutter.{Cutter}
-use Rattle.segments.specs.declared.cutter.Open.{Open}
+use Rattle.segments.proofs.LevelModel.{Cutter}
+use Rattle.segments.proofs.LevelModel.{Open}
 use Rattle.segments.specs.declared.cutter.Place.{Place}
 use Rattle.segments.specs.declared.cutter.Place.TheVariants as place
-use Rattle.segments.specs.declared.cutter.Group.TheVariants as group
-use Rattle.segments.specs.declared.cutter.Group.{Group as Kind}
+use Rattle.segments.proofs.GroupKinds as group
+use Rattle.segments.proofs.GroupKinds.{Kind}
 use Rattle.segments.specs.Brackets.{mark_of, same_pair}
 use Rattle.segments.specs.Stack.{below}
 use Rattle.segments.specs.Levels.{stored}
-use Rattle.segments.specs.Steps.{plain, entry, place_in, opened, closed_group, closed_by, step, step_by, run}
+use Rattle.segments.specs.Steps.{place_in}
+use Rattle.segments.proofs.LevelModel.{plain, entry, opened, closed_group, closed_by, step, step_by, run}
 use Rattle.segments.proofs.Stacks.{top_end, below_end}
 use Rattle.segments.proofs.Forests.{Forest, Nothing, Single, Group, flat}
 use Rattle.segments.proofs.Alone.{alone}

@@ -1,39 +1,35 @@
 -- The answer for a whole list.
-use Rattle.std.proofs.Common.{◌≡◌, refl, sym, ◌∙◌, ap, subst, ℕ, ◌≤◌, arith, Bool, true, false, cond, List, [], ◌∷◌, ◌++◌, append_assoc, append-nil, length, drop, map, Option, Some, None, Result, Ok, Err}
+use Rattle.std.proofs.Common.{◌≡◌, refl, sym, ◌∙◌, ap, subst, ℕ, ◌≤◌, arith, Bool, true, false, cond, List, [], ◌∷◌, ◌++◌, append-nil, length, drop, map, Option, Some, None, Result, Ok, Err}
 use Rattle.std.proofs.lemmas.List.{drop_all}
 use Rattle.java_token.specs.declared.token.Token.{Token}
-use Rattle.segments.specs.declared.bracket.Pair.{Pair}
-use Rattle.segments.specs.declared.bracket.Pair.TheVariants.{Parentheses, Brackets, Braces}
-use Rattle.segments.specs.declared.bracket.Mark.TheVariants.{Opening, Closing}
 use Rattle.segments.specs.declared.segment.Segment.{Segment}
 use Rattle.segments.specs.declared.error.SegErr.{SegErr}
 use Rattle.segments.specs.declared.error.SegErr.TheVariants.{Unbalanced, TooDeep, Memory}
 use Rattle.segments.specs.declared.level.Level.{Level}
 use Rattle.segments.specs.declared.cutter.Cutter.{Cutter}
-use Rattle.segments.specs.declared.cutter.Open.{Open}
+use Rattle.segments.proofs.LevelModel.{Open}
 use Rattle.segments.specs.declared.cutter.Place.TheVariants as place
-use Rattle.segments.specs.Brackets.{mark_of, same_pair, IsBalanced, no_token, single, in_group, is_closing, Bracket, bracket_of, in_front, unpaired, first_line, first_wrong, wrong_line}
+use Rattle.segments.specs.Brackets.{IsBalanced, is_closing, wrong_line}
+use Rattle.segments.proofs.Unpaired.{Bracket, bracket_of, unpaired, first_line, first_wrong}
 use Rattle.segments.specs.Cut.{segment_of, depth_of, first_some, cut_within, deep_beyond}
 use Rattle.segments.specs.Segmentwise.{between_ends, behind_ends}
 use Rattle.segments.specs.Levels.{fresh, segments_of}
 use Rattle.segments.specs.Steps.{start, run}
-use Rattle.segments.specs.Finish.{finished_by, finished, Gives}
-use Rattle.segments.specs.Answer.{cut, Answers}
-use Rattle.segments.proofs.Forests.{Forest, Nothing, Single, Group, flat, spelt, left_out, spread}
+use Rattle.segments.specs.Finish.{finished}
+use Rattle.segments.proofs.LevelModel as model
+use Rattle.segments.proofs.LevelModel.{start as model_start}
+use Rattle.segments.proofs.Follows.{followed_whole}
+use Rattle.segments.specs.Answer.{cut, answer_by, segmented, Gives, Answers}
+use Rattle.segments.proofs.Forests.{Forest, flat, spelt, left_out, spread}
 use Rattle.segments.proofs.Pieces.{pieces_of}
 use Rattle.segments.proofs.Running.{at}
 use Rattle.segments.proofs.Outside.{either, level_of, body_within, deep_within, outside_run, level_segments, level_deep}
 use Rattle.segments.proofs.Wrong.{marks, verdict, wrong_among, wrong_run}
+use Rattle.segments.proofs.Paired.{balanced_flat, none_in_front, wrong_is}
 use Rattle.segments.proofs.Depth.{cut_whole}
 
--- the answer by what doesn't pair, what is too deep, and the segments
-abbrev pub answer_by : Option ℕ → Option ℕ → List Segment → Result (List Segment) SegErr
-answer_by (Some line) deep segments = Err (Unbalanced line)
-answer_by None (Some line) segments = Err (TooDeep line)
-answer_by None None segments = Ok segments
-
 finished_wrong : (w : Option ℕ) (bs : List Open) (d : Option ℕ) (l : Level) (line : ℕ) → either w (first_line (marks bs)) ≡ Some line
-    → finished_by w bs d l ≡ Err (Unbalanced line)
+    → model.finished_by w bs d l ≡ Err (Unbalanced line)
 finished_wrong (Some other) bs d l line e = ap (λ x. Err (Unbalanced x)) (some_same other line e) where
   some_same : (a b : ℕ) → Some a ≡ Some b → a ≡ b
   some_same a b e = cc
@@ -59,70 +55,45 @@ none_spelt ((t, f) ∷ rest) e = cc
 
 -- a list whose brackets pair is a forest
 pub forest_of : (tokens : List Token) → wrong_line tokens ≡ None → (f : Forest) × (flat f ≡ tokens)
-unfolding wrong_line
 forest_of tokens e =
     let s = spread tokens in
-    let none = s.left ∙ none_left (unpaired (map bracket_of tokens)) e in
+    let none = s.left ∙ none_left (unpaired (map bracket_of tokens)) (sym (wrong_is tokens) ∙ e) in
     (s.front, sym (append-nil (flat s.front)) ∙ ap (λ x. flat s.front ++ x) (sym (none_spelt s.rest none)) ∙ s.parts)
-
-balanced_flat : (f : Forest) → IsBalanced (flat f)
-balanced_flat Nothing = no_token
-balanced_flat (Single t e f) = single t (flat f) e (balanced_flat f)
-balanced_flat (Group p o eo i c ec f) = in_group p o (flat i) c (flat f) eo (balanced_flat i) ec (balanced_flat f)
 
 pub balanced : (tokens : List Token) → wrong_line tokens ≡ None → IsBalanced tokens
 balanced tokens e = let f = forest_of tokens e in subst IsBalanced f.1 (balanced_flat f.0)
 
-same_self : (p : Pair) → same_pair p p ≡ true
-same_self Parentheses = refl
-same_self Brackets = refl
-same_self Braces = refl
-
--- a balanced list in front of another leaves nothing of its own
-none_in_front : {tokens : List Token} → IsBalanced tokens → (rest : List Token)
-    → unpaired (map bracket_of (tokens ++ rest)) ≡ unpaired (map bracket_of rest)
-none_in_front no_token rest = refl
-none_in_front (single t behind e h) rest = ap (λ m. in_front m t.line (unpaired (map bracket_of (behind ++ rest)))) e ∙ none_in_front h rest
-none_in_front (in_group p o inside c behind eo hi ec hb) rest =
-    let u = unpaired (map bracket_of (behind ++ rest)) in
-    ap (λ x. in_front (mark_of o) o.line (unpaired (map bracket_of x))) (append_assoc inside (c ∷ behind) rest)
-    ∙ ap (in_front (mark_of o) o.line) (none_in_front hi (c ∷ (behind ++ rest)) ∙ ap (λ m. in_front m c.line u) ec)
-    ∙ ap (λ m. in_front m o.line (record { mark = Closing p; line = c.line } ∷ u)) eo
-    ∙ ap (λ b. cond b u (record { mark = Opening p; line = o.line } ∷ record { mark = Closing p; line = c.line } ∷ u)) (same_self p)
-    ∙ none_in_front hb rest
-
 pub never_wrong : (tokens : List Token) → IsBalanced tokens → wrong_line tokens ≡ None
-unfolding wrong_line
-never_wrong tokens h = ap (λ x. wrong_among (unpaired (map bracket_of x))) (sym (append-nil tokens)) ∙ ap wrong_among (none_in_front h [])
+never_wrong tokens h = wrong_is tokens ∙ ap (λ x. wrong_among (unpaired (map bracket_of x))) (sym (append-nil tokens)) ∙ ap wrong_among (none_in_front h [])
 
 unbalanced : (tokens : List Token) (line : ℕ) → wrong_line tokens ≡ Some line → IsBalanced tokens → ⊥
 unbalanced tokens line e h = let n = never_wrong tokens h in cc
 
-finished_paired : (n : ℕ) (f : Forest) → finished (run (at (fresh n) [] place.Outside None) (flat f)) ≡ answer_by None (deep_beyond n (flat f)) (cut_within n (flat f))
+finished_paired : (n : ℕ) (f : Forest) → model.finished (model.run (at (fresh n) [] place.Outside None) (flat f)) ≡ answer_by None (deep_beyond n (flat f)) (cut_within n (flat f))
 finished_paired n f =
-    ap finished (outside_run f n [] [] [] None)
+    ap model.finished (outside_run f n [] [] [] None)
     ∙ by (first_some (map (depth_of (deep_within n)) (between_ends [] (pieces_of f)))) (level_of n (map (segment_of (body_within n)) (between_ends [] (pieces_of f))) (behind_ends [] (pieces_of f)))
     ∙ ap (λ x. answer_by None x (segments_of (level_of n (map (segment_of (body_within n)) (between_ends [] (pieces_of f))) (behind_ends [] (pieces_of f))))) (level_deep n f)
     ∙ ap (λ x. answer_by None (deep_beyond n (flat f)) x) (level_segments n f)
   where
-    by : (d : Option ℕ) (l : Level) → finished_by None [] d l ≡ answer_by None d (segments_of l)
+    by : (d : Option ℕ) (l : Level) → model.finished_by None [] d l ≡ answer_by None d (segments_of l)
     by (Some line) l = refl
     by None l = refl
 
 -- what a cutter answers is what the definitions say
-pub whole : (n : ℕ) (tokens : List Token) → finished (run (start n) tokens) ≡ answer_by (wrong_line tokens) (deep_beyond n tokens) (cut_within n tokens)
-unfolding start wrong_line
+pub whole : (n : ℕ) (tokens : List Token) → model.finished (model.run (model.start n) tokens) ≡ answer_by (wrong_line tokens) (deep_beyond n tokens) (cut_within n tokens)
+unfolding model_start
 whole n tokens = by (wrong_line tokens) refl where
-  v : verdict (run (at (fresh n) [] place.Outside None) tokens) ≡ wrong_line tokens
-  v = wrong_run tokens (fresh n) [] place.Outside None
+  v : verdict (model.run (at (fresh n) [] place.Outside None) tokens) ≡ wrong_line tokens
+  v = wrong_run tokens (fresh n) [] place.Outside None ∙ sym (wrong_is tokens)
 
-  by : (w : Option ℕ) → wrong_line tokens ≡ w → finished (run (start n) tokens) ≡ answer_by (wrong_line tokens) (deep_beyond n tokens) (cut_within n tokens)
+  by : (w : Option ℕ) → wrong_line tokens ≡ w → model.finished (model.run (model.start n) tokens) ≡ answer_by (wrong_line tokens) (deep_beyond n tokens) (cut_within n tokens)
   by (Some line) e =
-      let c = run (at (fresh n) [] place.Outside None) tokens in
+      let c = model.run (at (fresh n) [] place.Outside None) tokens in
       finished_wrong c.wrong c.brackets c.deep c.level line (v ∙ e) ∙ ap (λ w. answer_by w (deep_beyond n tokens) (cut_within n tokens)) (sym e)
   by None e =
       let f = forest_of tokens e in
-      ap (λ x. finished (run (at (fresh n) [] place.Outside None) x)) (sym f.1) ∙ finished_paired n f.0
+      ap (λ x. model.finished (model.run (at (fresh n) [] place.Outside None) x)) (sym f.1) ∙ finished_paired n f.0
       ∙ ap (λ x. answer_by None (deep_beyond n x) (cut_within n x)) f.1 ∙ ap (λ w. answer_by w (deep_beyond n tokens) (cut_within n tokens)) (sym e)
 
 -- where nothing is too deep, that is the whole cut
@@ -161,7 +132,7 @@ fits None None shallow all same (Err (Unbalanced other)) g = cc
 fits None None shallow all same (Err (TooDeep other)) g = cc
 fits w d shallow all same (Err Memory) g = tt
 
-pub answers : (n : ℕ) (tokens : List Token) (r : Result (List Segment) SegErr) → Gives r (finished (run (start n) tokens)) → Answers n tokens r
+pub answers : (n : ℕ) (tokens : List Token) (r : Result (List Segment) SegErr) → Gives r (model.finished (model.run (model.start n) tokens)) → Answers n tokens r
 answers n tokens r g =
     by r (fits (wrong_line tokens) (deep_beyond n tokens) (cut_within n tokens) (cut tokens) (whole_cut n tokens) r (subst (λ x. Gives r x) (whole n tokens) g))
   where
@@ -171,10 +142,26 @@ answers n tokens r g =
     by (Err (TooDeep line)) h = (balanced tokens h.0, h.1)
     by (Err Memory) h = h
 
+same_answer : (w d : Option ℕ) (shallow all : List Segment) → (w ≡ None → d ≡ None → shallow ≡ all) → answer_by w d shallow ≡ answer_by w d all
+same_answer (Some line) d shallow all same = refl
+same_answer None (Some line) shallow all same = refl
+same_answer None None shallow all same = ap Ok (same refl refl)
+
+-- what a cutter answers, with the whole cut
+pub whole_answer : (n : ℕ) (tokens : List Token) → model.finished (model.run (model.start n) tokens) ≡ segmented n tokens
+unfolding segmented
+whole_answer n tokens = whole n tokens ∙ same_answer (wrong_line tokens) (deep_beyond n tokens) (cut_within n tokens) (cut tokens) (whole_cut n tokens)
+
 -- the end of the tokens
-pub all_run : (c s : Cutter) (tokens : List Token) (i : ℕ) → length tokens ≤ i → run c (drop i tokens) ≡ s → c ≡ s
-all_run c s tokens i h e = let d = drop_all i tokens h in ap (run c) (sym d) ∙ e
+at_end : (n : ℕ) (tokens : List Token) (c : Cutter) (i : ℕ) → length tokens ≤ i → run c (drop i tokens) ≡ run (start n) tokens
+    → finished c ≡ model.finished (model.run (model.start n) tokens)
+at_end n tokens c i h e =
+    ap (λ rest. finished (run c rest)) (sym (drop_all i tokens h)) ∙ ap finished e ∙ followed_whole n tokens
 
 pub answers_at_end : (n : ℕ) (tokens : List Token) (r : Result (List Segment) SegErr) (c : Cutter) (i : ℕ) → length tokens ≤ i
     → run c (drop i tokens) ≡ run (start n) tokens → Gives r (finished c) → Answers n tokens r
-answers_at_end n tokens r c i h e g = answers n tokens r (subst (λ x. Gives r (finished x)) (all_run c (run (start n) tokens) tokens i h e) g)
+answers_at_end n tokens r c i h e g = answers n tokens r (subst (λ x. Gives r x) (at_end n tokens c i h e) g)
+
+pub exact_at_end : (n : ℕ) (tokens : List Token) (r : Result (List Segment) SegErr) (c : Cutter) (i : ℕ) → length tokens ≤ i
+    → run c (drop i tokens) ≡ run (start n) tokens → Gives r (finished c) → Gives r (segmented n tokens)
+exact_at_end n tokens r c i h e g = subst (λ x. Gives r x) (at_end n tokens c i h e ∙ whole_answer n tokens) g

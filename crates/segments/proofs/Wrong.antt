@@ -6,17 +6,19 @@ use Rattle.segments.specs.declared.bracket.Pair.TheVariants.{Braces}
 use Rattle.segments.specs.declared.bracket.Mark.{Mark}
 use Rattle.segments.specs.declared.bracket.Mark.TheVariants.{Opening, Closing, Plain}
 use Rattle.segments.specs.declared.level.Level.{Level}
-use Rattle.segments.specs.declared.cutter.Cutter.{Cutter}
-use Rattle.segments.specs.declared.cutter.Open.{Open}
+use Rattle.segments.proofs.LevelModel.{Cutter}
+use Rattle.segments.proofs.LevelModel.{Open}
 use Rattle.segments.specs.declared.cutter.Place.{Place}
 use Rattle.segments.specs.declared.cutter.Place.TheVariants as place
-use Rattle.segments.specs.declared.cutter.Group.TheVariants as group
-use Rattle.segments.specs.declared.cutter.Group.{Group as Kind}
-use Rattle.segments.specs.Brackets.{mark_of, same_pair, Bracket, bracket_of, in_front, unpaired, first_line, first_wrong}
+use Rattle.segments.proofs.GroupKinds as group
+use Rattle.segments.proofs.GroupKinds.{Kind}
+use Rattle.segments.specs.Brackets.{mark_of, same_pair}
+use Rattle.segments.proofs.Unpaired.{Bracket, bracket_of, in_front, unpaired, first_line, first_wrong}
 use Rattle.segments.specs.Cut.{is_class_head}
 use Rattle.segments.specs.Stack.{top, below}
 use Rattle.segments.specs.Levels.{stored}
-use Rattle.segments.specs.Steps.{plain_at, entry, place_in, is_ending, or_else, first_line_or, noted_deep, skipping, body, ending, behind_default, opened_in_head, opened, closed_group, closed_by, unless, step, step_by, run}
+use Rattle.segments.specs.Steps.{plain_at, place_in, is_ending, or_else, first_line_or}
+use Rattle.segments.proofs.LevelModel.{entry, noted_deep, skipping, body, ending, behind_default, opened_in_head, opened, closed_group, closed_by, unless, step, step_by, run}
 use Rattle.segments.proofs.Stacks.{top_end, below_end}
 use Rattle.segments.proofs.Running.{at, step_plain, step_opening}
 use Rattle.segments.proofs.Outside.{either, ending_braces}
@@ -30,16 +32,16 @@ abbrev pub marks : List Open → List Bracket
 marks [] = []
 marks (o ∷ os) = bracket o.pair o.line ∷ marks os
 
-marks_end : (os : List Open) (o : Open) (rest : List Bracket) → marks (os ++ o ∷ []) ++ rest ≡ marks os ++ bracket o.pair o.line ∷ rest
+pub marks_end : (os : List Open) (o : Open) (rest : List Bracket) → marks (os ++ o ∷ []) ++ rest ≡ marks os ++ bracket o.pair o.line ∷ rest
 marks_end [] o rest = refl
 marks_end (x ∷ os) o rest = ap (λ l. bracket x.pair x.line ∷ l) (marks_end os o rest)
 
-openings_stay : (os : List Open) → unpaired (marks os) ≡ marks os
+pub openings_stay : (os : List Open) → unpaired (marks os) ≡ marks os
 openings_stay [] = refl
 openings_stay (o ∷ []) = refl
 openings_stay (o ∷ x ∷ os) = ap (λ l. in_front (Opening o.pair) o.line l) (openings_stay (x ∷ os))
 
-no_closing : (os : List Open) (rest : List Bracket) (otherwise : Option ℕ) → first_wrong (marks os ++ rest) otherwise ≡ first_wrong rest otherwise
+pub no_closing : (os : List Open) (rest : List Bracket) (otherwise : Option ℕ) → first_wrong (marks os ++ rest) otherwise ≡ first_wrong rest otherwise
 no_closing [] rest otherwise = refl
 no_closing (o ∷ os) rest otherwise = no_closing os rest otherwise
 
@@ -132,12 +134,12 @@ left_closed group.Skipped line l bs w d t = record { level = (closed_group group
 left_closed (group.Body outer) line l bs w d t = record { level = (closed_group (group.Body outer) line (at l bs w d) t).level; where_ = w; deep = d; is = refl }
 
 -- a list is empty, or has a last item
-record Ended (os : List Open) : Type 0 where
-  front : List Open
-  end : Open
-  is : os ≡ front ++ end ∷ []
+pub record Ended (os : List Open) : Type 0 where
+  pub front : List Open
+  pub end : Open
+  pub is : os ≡ front ++ end ∷ []
 
-last_of : (os : List Open) → (os ≡ []) ⊎ Ended os
+pub last_of : (os : List Open) → (os ≡ []) ⊎ Ended os
 last_of [] = inl refl
 last_of (o ∷ os) = inr (by (last_of os)) where
   by : (os ≡ []) ⊎ Ended os → Ended (o ∷ os)
@@ -164,19 +166,19 @@ unfolding step
 step_closed l bs w d p t e = ap (λ m. step_by m (at l bs w d) t) e
 
 -- a closing bracket behind the opening one that is open
-closes_last : (front : List Open) (o : Open) (p : Pair) (line : ℕ) (rest : List Bracket) → same_pair o.pair p ≡ true
+pub closes_last : (front : List Open) (o : Open) (p : Pair) (line : ℕ) (rest : List Bracket) → same_pair o.pair p ≡ true
     → unpaired (marks front ++ bracket o.pair o.line ∷ record { mark = Closing p; line = line } ∷ rest) ≡ unpaired (marks front ++ rest)
 closes_last front o p line rest e =
     same_behind (marks front) (bracket o.pair o.line ∷ record { mark = Closing p; line = line } ∷ rest) rest
     (ap (λ b. cond b (unpaired rest) (bracket o.pair o.line ∷ record { mark = Closing p; line = line } ∷ unpaired rest)) e)
 
-wrong_last : (front : List Open) (o : Open) (p : Pair) (line : ℕ) (rest : List Bracket) → same_pair o.pair p ≡ false
-    → wrong_among (unpaired (marks front ++ bracket o.pair o.line ∷ record { mark = Closing p; line = line } ∷ rest)) ≡ Some line
-wrong_last front o p line rest e =
+pub wrong_last : (front : List Open) (o : Open) (p : Pair) (line : ℕ) (rest : List Bracket) (otherwise : Option ℕ) → same_pair o.pair p ≡ false
+    → first_wrong (unpaired (marks front ++ bracket o.pair o.line ∷ record { mark = Closing p; line = line } ∷ rest)) otherwise ≡ Some line
+wrong_last front o p line rest otherwise e =
     let inner : unpaired (bracket o.pair o.line ∷ record { mark = Closing p; line = line } ∷ rest) ≡ bracket o.pair o.line ∷ record { mark = Closing p; line = line } ∷ unpaired rest =
     ap (λ b. cond b (unpaired rest) (bracket o.pair o.line ∷ record { mark = Closing p; line = line } ∷ unpaired rest)) e in
     let all = stay_behind front o.pair o.line (bracket o.pair o.line ∷ record { mark = Closing p; line = line } ∷ rest) (record { mark = Closing p; line = line } ∷ unpaired rest) inner in
-    ap wrong_among all ∙ no_closing front (bracket o.pair o.line ∷ record { mark = Closing p; line = line } ∷ unpaired rest) _
+    ap (λ left. first_wrong left otherwise) all ∙ no_closing front (bracket o.pair o.line ∷ record { mark = Closing p; line = line } ∷ unpaired rest) otherwise
 
 module _ (t : Token) (ts : List Token) (l : Level) (bs : List Open) (w : Place) (d : Option ℕ)
     (behind : (l : Level) (bs : List Open) (w : Place) (d : Option ℕ) → verdict (run (at l bs w d) ts) ≡ wrong_among (unpaired (marks bs ++ map bracket_of ts))) where
@@ -219,7 +221,7 @@ module _ (t : Token) (ts : List Token) (l : Level) (bs : List Open) (w : Place) 
     by false s =
         ap (λ c. verdict (run c ts)) (taken ∙ ap (λ x. cond x (closed_group last.end.group last.end.line (at l last.front w d) t) (record (at l last.front w d) { wrong = Some t.line })) s)
         ∙ stays_wrong _ t.line ts refl
-        ∙ sym (wrong_last last.front last.end p t.line (map bracket_of ts) s) ∙ shown
+        ∙ sym (wrong_last last.front last.end p t.line (map bracket_of ts) _ s) ∙ shown
 
 pub wrong_run : (ts : List Token) (l : Level) (bs : List Open) (w : Place) (d : Option ℕ) → verdict (run (at l bs w d) ts) ≡ wrong_among (unpaired (marks bs ++ map bracket_of ts))
 wrong_run [] l bs w d =

@@ -1,5 +1,5 @@
 -- The brackets of a list of tokens (JLS 3.11), and which of them don't pair.
-use Rattle.std.specs.Prelude.{◌≡◌, ℕ, ◌+◌, Bool, true, false, ◌==◌, if◌then◌else◌, List, [], ◌∷◌, ◌++◌, map, Option, Some, None}
+use Rattle.std.specs.Prelude.{◌≡◌, ℕ, zero, suc, ◌+◌, Bool, true, false, not, ◌&&◌, ◌||◌, ◌==◌, if◌then◌else◌, List, [], ◌∷◌, ◌++◌, length, Option, Some, None}
 use Rattle.java_token.specs.declared.token.Token.{Token}
 use Rattle.java_token.specs.declared.token.TokenKind.{TokenKind}
 use Rattle.java_token.specs.declared.token.TokenKind.TheVariants as kind
@@ -68,42 +68,63 @@ is_outside before = opens before == closes before
 
 -- ---- what doesn't pair
 
--- a token as a bracket, and its line
-pub record Bracket : Type 0 where
-  pub mark : Mark
-  pub line : ℕ
+-- some token of the list is so, with what stands before it and behind it
+abbrev pub some_token : (List Token → Token → List Token → Bool) → List Token → Bool
+some_token is [] = false
+some_token is (t ∷ ts) = is [] t ts || some_token (λ before. is (t ∷ before)) ts
 
-abbrev pub bracket_of : Token → Bracket
-bracket_of token = record { mark = mark_of token; line = token.line }
+abbrev pub marks_pair : Mark → Mark → Bool
+marks_pair (Opening pair) (Closing other) = same_pair pair other
+marks_pair _ _ = false
 
-abbrev pub is_closed_by : Pair → Mark → Bool
-is_closed_by pair (Closing other) = same_pair pair other
-is_closed_by pair _ = false
+-- an opening bracket, and a closing one of its kind
+abbrev pub are_pair : Token → Token → Bool
+are_pair opening closing = marks_pair (mark_of opening) (mark_of closing)
 
--- a bracket in front of brackets of which none pair
-abbrev pub in_front : Mark → ℕ → List Bracket → List Bracket
-in_front Plain line left = left
-in_front (Closing pair) line left = record { mark = Closing pair; line = line } ∷ left
-in_front (Opening pair) line [] = record { mark = Opening pair; line = line } ∷ []
-in_front (Opening pair) line (next ∷ left) =
-    if is_closed_by pair next.mark then left else record { mark = Opening pair; line = line } ∷ next ∷ left
+abbrev pub is_plain : Mark → Bool
+is_plain Plain = true
+is_plain _ = false
 
--- the brackets that are left when each opening one right before a closing one of its pair is taken out
--- together with that, until there are no two such
-abbrev pub unpaired : List Bracket → List Bracket
-unpaired [] = []
-unpaired (b ∷ bs) = in_front b.mark b.line (unpaired bs)
+-- whether the brackets of a list of at most n tokens pair: it is empty, or begins with a token that is no
+-- bracket, or with a group
+unfoldable pub is_balanced_within : ℕ → List Token → Bool
+is_balanced_within n [] = true
+is_balanced_within zero (t ∷ ts) = false
+is_balanced_within (suc n) (t ∷ ts) = (is_plain (mark_of t) && is_balanced_within n ts)
+    || some_token (λ inside closing behind.
+    are_pair t closing && (is_balanced_within n inside && is_balanced_within n behind)) ts
 
-abbrev pub first_line : List Bracket → Option ℕ
-first_line [] = None
-first_line (b ∷ bs) = Some b.line
+abbrev pub is_balanced : List Token → Bool
+is_balanced tokens = is_balanced_within (length tokens) tokens
 
--- the line of the first closing one, else of the first one
-abbrev pub first_wrong : List Bracket → Option ℕ → Option ℕ
-first_wrong [] otherwise = otherwise
-first_wrong (b ∷ bs) otherwise = if is_closing b.mark then Some b.line else first_wrong bs otherwise
+-- a closing bracket pairs where an opening one of its kind stands before it, and between them tokens whose
+-- brackets pair
+abbrev pub pairs_back : List Token → Token → Bool
+pairs_back before closing =
+    some_token (λ front opening inside. are_pair opening closing && is_balanced inside) before
+
+-- an opening one, where a closing one of its kind stands so behind it
+abbrev pub pairs_ahead : Token → List Token → Bool
+pairs_ahead opening behind =
+    some_token (λ inside closing rest. are_pair opening closing && is_balanced inside) behind
+
+-- the line of the first token that is so
+abbrev pub line_of_first : (List Token → Token → List Token → Bool) → List Token → Option ℕ
+line_of_first is [] = None
+line_of_first is (t ∷ ts) = if is [] t ts then Some t.line
+    else line_of_first (λ before. is (t ∷ before)) ts
+
+abbrev pub is_wrong_closing : List Token → Token → List Token → Bool
+is_wrong_closing before t behind = is_closing (mark_of t) && not (pairs_back before t)
+
+abbrev pub is_left_open : List Token → Token → List Token → Bool
+is_left_open before t behind = is_opening (mark_of t) && not (pairs_ahead t behind)
+
+abbrev pub or_else : Option ℕ → Option ℕ → Option ℕ
+or_else (Some line) other = Some line
+or_else None other = other
 
 -- where the brackets don't pair: the line of the first closing bracket that doesn't pair,
 -- and if there is none, of the first opening bracket that stays open
 unfoldable pub wrong_line : List Token → Option ℕ
-wrong_line tokens = let left = unpaired (map bracket_of tokens) in first_wrong left (first_line left)
+wrong_line tokens = or_else (line_of_first is_wrong_closing tokens) (line_of_first is_left_open tokens)

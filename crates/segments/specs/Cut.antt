@@ -26,7 +26,7 @@ whole (before, t) = before ++ t ∷ []
 
 -- what stands between neighbouring places outside all brackets
 abbrev pub pieces : List Token → List Piece
-pieces tokens = map whole (between is_outside_behind [] [] tokens)
+pieces tokens = map whole (between is_outside_behind tokens)
 
 abbrev pub begins : (Token → Bool) → Piece → Bool
 begins is [] = false
@@ -136,7 +136,7 @@ tail_of (t ∷ ts) = record { head = t ∷ ts; end = Tail } ∷ []
 
 abbrev pub cut_by : (ℕ → List Token → SegEnd) → List Token → List Segment
 cut_by body tokens =
-    map (segment_of body) (between is_end [] [] (pieces tokens)) ++ tail_of (head_of (behind is_end [] [] (pieces tokens)))
+    map (segment_of body) (between is_end (pieces tokens)) ++ tail_of (head_of (behind is_end (pieces tokens)))
 
 -- the segments, where a class body in more than `most` class bodies, itself counted, is left uncut
 unfoldable pub cut_within : ℕ → List Token → List Segment
@@ -156,7 +156,7 @@ depth_of body (before, t ∷ ts) =
     if is_semicolon t then None else (if is_class_head (head_of before) then body (line_of (head_of before)) (without_last ts) else None)
 
 abbrev pub deep_by : (ℕ → List Token → Option ℕ) → List Token → Option ℕ
-deep_by body tokens = first_some (map (depth_of body) (between is_end [] [] (pieces tokens)))
+deep_by body tokens = first_some (map (depth_of body) (between is_end (pieces tokens)))
 
 -- the line of the head of the first class body that stands in more than `most`, itself counted
 unfoldable pub deep_beyond : ℕ → List Token → Option ℕ

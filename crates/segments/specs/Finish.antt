@@ -1,8 +1,8 @@
 -- What a cutter answers at the end of the list.
-use Rattle.std.specs.Prelude.{◌≡◌, ℕ, List, [], ◌∷◌, Option, Some, None, Result, Ok, Err}
+use Rattle.std.specs.Prelude.{ℕ, List, [], ◌∷◌, Option, Some, None, Result, Ok, Err}
 use Rattle.segments.specs.declared.segment.Segment.{Segment}
 use Rattle.segments.specs.declared.error.SegErr.{SegErr}
-use Rattle.segments.specs.declared.error.SegErr.TheVariants.{Unbalanced, TooDeep, Memory}
+use Rattle.segments.specs.declared.error.SegErr.TheVariants.{Unbalanced, TooDeep}
 use Rattle.segments.specs.declared.level.Level.{Level}
 use Rattle.segments.specs.declared.cutter.Cutter.{Cutter}
 use Rattle.segments.specs.declared.cutter.Open.{Open}
@@ -16,10 +16,3 @@ finished_by None [] None level = Ok (segments_of level)
 
 abbrev pub finished : Cutter → Result (List Segment) SegErr
 finished cutter = finished_by cutter.wrong cutter.brackets cutter.deep cutter.level
-
--- that answer, but for want of memory
-abbrev pub Gives : Result (List Segment) SegErr → Result (List Segment) SegErr → Type 0
-Gives (Ok segments) expected = expected ≡ Ok segments
-Gives (Err (Unbalanced line)) expected = expected ≡ Err (Unbalanced line)
-Gives (Err (TooDeep line)) expected = expected ≡ Err (TooDeep line)
-Gives (Err Memory) expected = Unit {0}

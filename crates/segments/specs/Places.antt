@@ -1,16 +1,28 @@
--- A list cut at a set of its places. A place is given by what stands before it in the whole list, and by the item
+-- A list cut at a set of its places. A place is given by what stands before it in the list, and by the item
 -- right before it.
-use Rattle.std.specs.Prelude.{Bool, if◌then◌else◌, List, [], ◌∷◌, ◌++◌}
+use Rattle.std.specs.Prelude.{Bool, false, ◌||◌, if◌then◌else◌, List, [], ◌∷◌}
 
--- what stands between neighbouring places, each time the items before the last one, and that.
--- `all` is what stands before in the whole list, and `before` what of it stands behind the last place
-abbrev pub between : {X : Type 0} → (List X → X → Bool) → List X → List X → List X → List (List X × X)
-between is all before [] = []
-between is all before (x ∷ xs) =
-    if is all x then (before, x) ∷ between is (all ++ x ∷ []) [] xs else between is (all ++ x ∷ []) (before ++ x ∷ []) xs
+-- the places behind an item, as places of what follows it
+abbrev pub behind_item : {X : Type 0} → (List X → X → Bool) → X → List X → X → Bool
+behind_item is x before y = is (x ∷ before) y
+
+-- an item in front of the first part
+abbrev pub with_item : {X : Type 0} → X → List (List X × X) → List (List X × X)
+with_item x [] = []
+with_item x ((before, end) ∷ parts) = (x ∷ before, end) ∷ parts
+
+-- what stands between neighbouring places, each time the items before the last one, and that
+abbrev pub between : {X : Type 0} → (List X → X → Bool) → List X → List (List X × X)
+between is [] = []
+between is (x ∷ xs) = if is [] x then ([], x) ∷ between (behind_item is x) xs
+    else with_item x (between (behind_item is x) xs)
+
+-- one of the places is in the list
+abbrev pub has_place : {X : Type 0} → (List X → X → Bool) → List X → Bool
+has_place is [] = false
+has_place is (x ∷ xs) = is [] x || has_place (behind_item is x) xs
 
 -- what stands behind the last place
-abbrev pub behind : {X : Type 0} → (List X → X → Bool) → List X → List X → List X → List X
-behind is all before [] = before
-behind is all before (x ∷ xs) =
-    if is all x then behind is (all ++ x ∷ []) [] xs else behind is (all ++ x ∷ []) (before ++ x ∷ []) xs
+abbrev pub behind : {X : Type 0} → (List X → X → Bool) → List X → List X
+behind is [] = []
+behind is (x ∷ xs) = if has_place is (x ∷ xs) then behind (behind_item is x) xs else x ∷ xs

@@ -66,7 +66,10 @@ abbrev pub noted_deep : Cutter → Token → Cutter
 noted_deep cutter token = record cutter { deep = or_else cutter.deep (first_line_or cutter.level.head token) }
 
 abbrev pub body : Cutter → Token → Cutter
-body cutter token = record (noted cutter Braces token (group.Body cutter.level)) { level = fresh (cutter.level.left - 1) }
+body cutter token = record (noted cutter Braces token group.Body) {
+  level = fresh (cutter.level.left - 1);
+  outer = cutter.outer ++ cutter.level ∷ [];
+}
 
 abbrev pub ending : Cutter → Token → Cutter
 ending cutter token =
@@ -91,12 +94,17 @@ opened cutter pair token = opened_at cutter.place cutter pair token
 
 -- ---- closing brackets
 
+-- the level that a class body stands in goes on
+abbrev pub left_body : Option Level → Cutter → Cutter
+left_body None cutter = cutter
+left_body (Some outer) cutter = record cutter { level = ended outer (Body (segments_of cutter.level)) }
+
 abbrev pub closed_group : Group → ℕ → Cutter → Token → Cutter
 closed_group group.Outer line cutter token = record cutter { level = stored cutter.level token; place = place.Outside }
 closed_group group.Inner line cutter token = record cutter { level = stored cutter.level token; place = place.Inside }
 closed_group group.Hidden line cutter token = cutter
 closed_group group.Skipped line cutter token = record cutter { level = ended cutter.level (Skipped line); place = place.Outside }
-closed_group (group.Body outer) line cutter token = record cutter { level = ended outer (Body (segments_of cutter.level)) }
+closed_group group.Body line cutter token = left_body (top cutter.outer) (record cutter { outer = below cutter.outer })
 
 abbrev pub closed_by : Option Open → Cutter → Pair → Token → Cutter
 closed_by None cutter pair token = record cutter { wrong = Some token.line }
@@ -121,7 +129,7 @@ unfoldable pub step : Cutter → Token → Cutter
 step cutter token = unless cutter.wrong cutter (step_by (mark_of token) cutter token)
 
 unfoldable pub start : ℕ → Cutter
-start most = record { level = fresh most; brackets = []; place = place.Outside; deep = None; wrong = None }
+start most = record { level = fresh most; outer = []; brackets = []; place = place.Outside; deep = None; wrong = None }
 
 abbrev pub run : Cutter → List Token → Cutter
 run cutter [] = cutter

@@ -1,5 +1,5 @@
 ghost use Rattle.std.specs.Prelude.{◌≡◌};
-ghost use Rattle.segments.specs.Answer.{Answers};
+ghost use Rattle.segments.specs.Answer.{Answers, Gives, segmented};
 
 use crate::cutter::Cutter;
 use crate::error::SegErr;
@@ -17,7 +17,8 @@ const MOST: u32 = 64;
 /// `Unbalanced` comes exactly where the brackets don't pair, and `TooDeep` exactly where they pair and a class body
 /// stands in more than 64 class bodies, itself counted.
 pub fn segments(alloc: Global, tokens: &[Token]) -> Result<List<Segment>, SegErr>
-    ensures { Answers 64 tokens.now result }
+    ensures exact { Gives result (segmented 64 tokens.now) }
+    ensures answers { Answers 64 tokens.now result }
 {
     let mut cutter = Cutter::new(alloc, MOST);
     for token in tokens {

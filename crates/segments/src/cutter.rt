@@ -1,6 +1,7 @@
-ghost use Rattle.std.specs.Prelude.{◌≡◌, OnOk};
-ghost use Rattle.segments.specs.Finish.{finished, Gives};
-ghost use Rattle.segments.specs.Steps.{start, step, plain, noted, noted_deep, skipping, ending, is_ending, opened_in_head, opened, closed, closed_group};
+ghost use Rattle.std.specs.Prelude.{◌≡◌, OnOk, Some};
+ghost use Rattle.segments.specs.Answer.{Gives};
+ghost use Rattle.segments.specs.Finish.{finished};
+ghost use Rattle.segments.specs.Steps.{start, step, plain, noted, noted_deep, skipping, ending, is_ending, opened_in_head, opened, closed, closed_group, left_body};
 
 use crate::bracket::{Mark, Pair};
 use crate::class_head::is_class_head;
@@ -18,6 +19,8 @@ use std::mem;
 #[derive(Drop)]
 pub struct Cutter {
     pub level: Level,
+    /// The levels that the open class bodies stand in, the innermost last.
+    pub outer: List<Level>,
     /// The brackets that are open, the innermost last.
     pub brackets: List<Open>,
     pub place: Place,
@@ -39,15 +42,15 @@ pub enum Place {
 }
 
 /// An opening bracket whose partner has not come.
-#[derive(Drop)]
+#[derive(Clone, Copy)]
 pub struct Open {
-    pub pair: Pair,
     pub line: u32,
+    pub pair: Pair,
     pub group: Group,
 }
 
 /// What an open group is.
-#[derive(Drop)]
+#[derive(Clone, Copy)]
 pub enum Group {
     /// Its brackets are in the head, outside other brackets.
     Outer,
@@ -57,8 +60,8 @@ pub enum Group {
     Hidden,
     /// It ends the segment, and is skipped.
     Skipped,
-    /// A class body, and the level that it stands in.
-    Body(Level),
+    /// A class body. Its outer level is kept apart, so that a bracket takes little room.
+    Body,
 }
 
 impl Cutter {
@@ -69,6 +72,7 @@ impl Cutter {
     {
         Cutter {
             level: Level::new(alloc, most),
+            outer: List::of(Vec::new(alloc)),
             brackets: List::of(Vec::new(alloc)),
             place: Place::Outside,
             deep: None,
@@ -97,6 +101,7 @@ impl Cutter {
     {
         let Cutter {
             level,
+            outer: _,
             brackets,
             place: _,
             deep,
@@ -198,7 +203,8 @@ impl Cutter {
         }
         let inner = Level::new(alloc, self.level.left - 1);
         let outer = mem::replace(&mut self.level, inner);
-        self.note(alloc, Pair::Braces, token, Group::Body(outer))
+        push(alloc, &mut self.outer, outer)?;
+        self.note(alloc, Pair::Braces, token, Group::Body)
     }
 
     fn skip(&mut self, alloc: Global, token: &Token) -> Result<(), Memory>
@@ -233,15 +239,19 @@ impl Cutter {
         }
     }
 
+    /// A class body ends, and the level that it stands in goes on.
+    fn leave_body(&mut self, alloc: Global, outer: Level) -> Result<(), Memory>
+        ensures { OnOk result (self.new ≡ left_body (Some outer) self.old) }
+    {
+        let inner = mem::replace(&mut self.level, outer);
+        let body = inner.into_segments(alloc)?;
+        self.level.end(alloc, SegEnd::Body(body))
+    }
+
     fn close_group(&mut self, alloc: Global, bracket: Open, token: &Token) -> Result<(), Memory>
         ensures { OnOk result (self.new ≡ closed_group bracket.group bracket.line self.old token.now) }
     {
-        let Open {
-            pair: _,
-            line,
-            group,
-        } = bracket;
-        match group {
+        match bracket.group {
             Group::Outer => {
                 self.place = Place::Outside;
                 self.level.store(alloc, token)
@@ -253,13 +263,13 @@ impl Cutter {
             Group::Hidden => Ok(()),
             Group::Skipped => {
                 self.place = Place::Outside;
+                let line = bracket.line;
                 self.level.end(alloc, SegEnd::Skipped { line })
             }
-            Group::Body(outer) => {
-                let inner = mem::replace(&mut self.level, outer);
-                let body = inner.into_segments(alloc)?;
-                self.level.end(alloc, SegEnd::Body(body))
-            }
+            Group::Body => match pop(alloc, &mut self.outer) {
+                Some(outer) => self.leave_body(alloc, outer),
+                None => Ok(()),
+            },
         }
     }
 }

@@ -14,5 +14,5 @@ mod words;
 
 pub use cut::segments;
 pub use error::SegErr;
-pub use laws::ends_by_segments;
+pub use laws::{ends_by_segments, pairs_where_no_line_is_wrong};
 pub use segment::{SegEnd, Segment};

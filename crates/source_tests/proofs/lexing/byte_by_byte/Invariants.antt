@@ -1,6 +1,6 @@
 use Rattle.std.proofs.Common.{◌≡◌, length}
 use Rattle.java_lexer.specs.declared.standing.Standing.TheVariants as standing
-use Rattle.source_rows.proofs.lexing.byte_by_byte.Given as goal
+use Rattle.source_tests.proofs.lexing.byte_by_byte.Given as goal
 
 -- the lexer takes bytes, and has taken those before the index
 abbrev pub invariant-loop-index : goal.invariant-loop-index

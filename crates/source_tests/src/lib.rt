@@ -6,6 +6,8 @@ mod cuts;
 #[cfg(test)]
 mod lexing;
 #[cfg(test)]
+mod sources;
+#[cfg(test)]
 mod texts;
 #[cfg(test)]
 mod tokens;

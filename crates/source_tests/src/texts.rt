@@ -414,3 +414,17 @@ pub const EXAMPLES: [Row; 42] = [
         "\"a\"",
     ),
 ];
+
+/// Backslashes before Unicode escapes are counted in what was translated so far, and one right behind an
+/// escape begins another (JLS 3.3).
+pub const UNICODE_ESCAPES: [Row; 9] = [
+    ("\"\\u005c\\\\u006e\"", "\"\\x5Cn\""),
+    ("\"\\u005c\\\\\\u0022u\"", "\"\\x5C\\x5Cu0022u\""),
+    ("\"\\u005c\\\\\"", "!1 NoToken"),
+    ("\\u005c\\u005c", "!1 NoToken"),
+    ("\\\\\\u006e", "!1 NoToken"),
+    ("\"\\\\\\u006e\"", "\"\\x5Cn\""),
+    ("\\uu005c\\u0041", "!1 NoToken"),
+    ("\"\\uu005c\\u0062\"", "\"\\x08\""),
+    ("\"\\u005c\\\\\\\\\\u006e\"", "\"\\x5C\\x5C\\x5Cu006e\""),
+];

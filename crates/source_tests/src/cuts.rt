@@ -160,7 +160,7 @@ const WRONGS: [(&str, u32); 10] = [
     ("int x = { / ( / } ;", 3),
 ];
 
-const OPERATORS: [(&str, OpTok); 20] = [
+const OPERATORS: [(&str, OpTok); 21] = [
     ("(", OpTok::LeftParenthesis),
     (")", OpTok::RightParenthesis),
     ("[", OpTok::LeftBracket),
@@ -181,9 +181,14 @@ const OPERATORS: [(&str, OpTok); 20] = [
     ("~", OpTok::Complement),
     ("<<", OpTok::ShiftLeft),
     (">>", OpTok::ShiftRight),
+    (">>>", OpTok::ShiftRightUnsigned),
 ];
 
-const KEYWORDS: [(&str, Kw); 7] = [
+const KEYWORDS: [(&str, Kw); 11] = [
+    ("package", Kw::Package),
+    ("import", Kw::Import),
+    ("public", Kw::Public),
+    ("extends", Kw::Extends),
     ("class", Kw::Class),
     ("interface", Kw::Interface),
     ("enum", Kw::Enum),
@@ -254,7 +259,8 @@ fn kind(rt: &impl Abort, alloc: Global, text: &str) -> TokenKind {
     }
 }
 
-fn tokens(rt: &impl Abort, alloc: Global, text: &str) -> Vec<Token> {
+/// The tokens of a list, as it is written in `CUTS`.
+pub fn tokens(rt: &impl Abort, alloc: Global, text: &str) -> Vec<Token> {
     let mut tokens = Vec::new(alloc);
     let mut line: u32 = 1;
     for word in text.split_whitespace() {
@@ -293,8 +299,13 @@ fn write(rt: &impl Abort, alloc: Global, segments: &[Segment], out: &mut Vec<Tok
 fn cut(rt: &impl Abort, alloc: Global, text: &str) -> Vec<Token> {
     let tokens = tokens(rt, alloc, text);
     let segments = segments(alloc, &tokens).expect(rt, "segments");
+    written(rt, alloc, segments.items())
+}
+
+/// Segments, written as in `CUTS`.
+pub fn written(rt: &impl Abort, alloc: Global, segments: &[Segment]) -> Vec<Token> {
     let mut written = Vec::new(alloc);
-    write(rt, alloc, segments.items(), &mut written);
+    write(rt, alloc, segments, &mut written);
     written
 }
 

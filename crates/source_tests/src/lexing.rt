@@ -1,7 +1,8 @@
 //! The tokens of many texts, fed whole and byte by byte.
 
 use crate::texts::{
-    BLOCKS_AND_OPERATORS, EXAMPLES, MORE, NUMBERS, QUOTATIONS, Row, WORDS_AND_SPACES,
+    BLOCKS_AND_OPERATORS, EXAMPLES, MORE, NUMBERS, QUOTATIONS, Row, UNICODE_ESCAPES,
+    WORDS_AND_SPACES,
 };
 use java_lexer::{LexErr, LexLit, Lexer, Token, TokenKind};
 use std::alloc::{AllocError, Global};
@@ -167,6 +168,7 @@ fn tells_the_tokens_of_texts(rt: HostRuntime) {
         BLOCKS_AND_OPERATORS.as_slice(),
         MORE.as_slice(),
         EXAMPLES.as_slice(),
+        UNICODE_ESCAPES.as_slice(),
     ];
     for rows in tables {
         check_rows(&rt, rt.alloc(), rows);
