@@ -1,0 +1,115 @@
+//! Initialisers, and what stands behind them.
+use crate::tokens::{append, tokens_of};
+use java_grammar::initialiser_extent;
+use java_token::Token;
+use std::process::Abort;
+
+/// What stands behind a `=`: the initialiser, and the rest of the head.
+const INITIALISERS: [(&str, &str); 76] = [
+    // the first comma outside brackets ends it
+    ("", ""),
+    ("", ", x"),
+    ("1", ""),
+    ("1", ", b"),
+    ("\"a, b\"", ", c"),
+    ("x.y", ", z"),
+    ("x = y", ", z"),
+    ("a ? b : c", ", d"),
+    ("a >> b", ", c"),
+    ("a >>> b", ", c"),
+    // not one in a pair of brackets
+    ("f(a, b)", ", c"),
+    ("f(a, b).g(c, d)", ", e"),
+    ("a[b, c]", ", d"),
+    ("{ 1, 2 }", ", d"),
+    ("new int[] { 1, 2 }", ", d"),
+    ("(a, b) -> a", ", c"),
+    ("(A<B, C> a, D e) -> a", ", d"),
+    ("(A<B, C>) x", ", d"),
+    ("x -> { return f(a, b); }", ", c"),
+    ("() -> { int a, b; }", ", c"),
+    ("switch (a) { case b, c -> d; }", ", e"),
+    ("@A(1, 2) x", ", c"),
+    // a comparison has no type arguments
+    ("n < a", ", b = q > 0"),
+    ("a < b", ", c > d"),
+    ("a < b", ", c > (d)"),
+    ("x.y < 1", ", z"),
+    ("x.a < b && c", ", d > e"),
+    ("x.a < b", ", c + d > e"),
+    // behind `new`
+    ("new M<A, B>()", ", k"),
+    ("new <A, B> C<D, E>()", ", f"),
+    ("new A.B<C, D>()", ", e"),
+    ("new A<B, C>.D<E, F>()", ", g"),
+    ("new A<>(b, c)", ", d"),
+    ("new A[] { b, c }", ", d"),
+    ("new A<B<C, D>>()", ", e"),
+    ("new A<B<C<D, E>>>()", ", f"),
+    ("new A<B, C>>> d", ", e"),
+    ("new A<? extends B, ? super C>()", ", d"),
+    ("new A<int[], B[]>()", ", c"),
+    ("new A<@X(1, 2) B, C>()", ", d"),
+    ("new @X A<B, C>()", ", d"),
+    ("new @X(1, 2) A<B, C>()", ", d"),
+    ("new A<B", ", C"),
+    ("new A @X <B", ", C>()"),
+    // behind a dot
+    ("this.<A, B>f()", ", c"),
+    ("a.<A, B>f()", ", c"),
+    ("super.<A, B>f()", ", c"),
+    ("a.new B<C, D>()", ", e"),
+    ("x.M<A, B> f", ", c"),
+    ("x.a < b, c > d", ", e"),
+    ("x.a < b, c >> d", ", e"),
+    // behind `instanceof`
+    ("o instanceof A<B, C>", ", d"),
+    ("o instanceof final A<B, C> a", ", d"),
+    ("o instanceof final @A({1, 2}) E<F, G>", ", x"),
+    ("o instanceof final final A<B", ", C> a"),
+    // before `::`, and behind it
+    ("int[]::new", ", d"),
+    ("M<A, B>::new", ", x"),
+    ("M<A, B> @X []::new", ", x"),
+    ("M<A, B>.@X C::new", ", d"),
+    ("A.B<C, D>::new", ", e"),
+    ("A<B, C>.D::new", ", e"),
+    ("A<B, C>.D<E, F>::new", ", g"),
+    ("A<B, C>[][]::new", ", d"),
+    ("A<B<C, D>, E>::f", ", g"),
+    ("A::<B, C>f", ", d"),
+    ("A.super::<B, C>f", ", d"),
+    ("M<A", ", B>.::new"),
+    ("M<A", ", B> @X ::new"),
+    ("M<A", ", B>[1]::new"),
+    ("M<A", ", B>>::new"),
+    // brackets that don't pair
+    ("( a", ", b"),
+    (") a", ", b"),
+    ("[ a", ", b"),
+    ("{ a", ", b"),
+    ("( a , b ]", ", c"),
+    ("( ( a , b )", ""),
+];
+
+fn extent<R: Abort>(rt: &R, tokens: &[Token]) -> usize {
+    assert!(rt; tokens.len() <= 1_000_000);
+    initialiser_extent(tokens) as usize
+}
+
+fn check<R: Abort + AllocGlobal>(rt: &R, initialiser: &[u8], behind: &[u8]) {
+    let mut source = Vec::new(rt.alloc());
+    append(rt, &mut source, initialiser);
+    append(rt, &mut source, b" ");
+    append(rt, &mut source, behind);
+    let whole = tokens_of(rt, &source);
+    let front = tokens_of(rt, initialiser);
+    assert!(rt; extent(rt, &whole) == front.len());
+}
+
+#[test]
+fn initialisers_end_at_their_comma(rt: HostRuntime) {
+    for (initialiser, behind) in &INITIALISERS {
+        check(&rt, initialiser.as_bytes(), behind.as_bytes());
+    }
+}

@@ -1,0 +1,14 @@
+pub mod Parts
+pub mod Tests
+pub mod Extents
+pub mod Within
+pub mod Counts
+pub mod Marks
+pub mod Words
+pub mod Expressions
+pub mod Annotations
+pub mod Types
+pub mod Modifiers
+pub mod Members
+pub mod Declarations
+pub mod Units

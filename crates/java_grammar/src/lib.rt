@@ -1,0 +1,16 @@
+//! The grammar of Java declarations: what a token is to it, the extents of initialisers, the counts that
+//! bound nesting, and in `specs/` which tokens and segments spell which trees.
+#![tactic(auto)]
+
+mod brackets;
+mod counts;
+mod extent;
+mod part;
+mod part_of;
+mod reference;
+mod tests;
+mod type_arguments;
+
+pub use counts::{MOST_COUNTED, MOST_NESTED, expression_fits, head_fits, is_plain, tokens_fit};
+pub use extent::initialiser_extent;
+pub use part::{ModifierWord, Pair, Part};
