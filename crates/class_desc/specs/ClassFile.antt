@@ -7,7 +7,7 @@ use Rattle.class_desc.specs.declared.attribute.Attr.{Attr}
 use Rattle.class_desc.specs.declared.class.ClassDesc.{ClassDesc}
 use Rattle.class_desc.specs.declared.class.FieldDesc.{FieldDesc}
 use Rattle.class_desc.specs.declared.class.MethodDesc.{MethodDesc}
-use Rattle.class_desc.specs.Names.{is_text, is_among, is_class_name, is_field_name, is_method_name}
+use Rattle.java_names.specs.Names.{is_text, is_among, is_class_name, is_field_name, is_method_name}
 use Rattle.class_desc.specs.Pool.{Entry, entry_bytes, EntryFits, NamesText, NamesClass}
 
 -- a text of the bytes 21 to 7e, as every text that something kept names is for now

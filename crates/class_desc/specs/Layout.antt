@@ -6,7 +6,7 @@ use Rattle.std.specs.Int.{w16, to_be_bytes}
 use Rattle.class_desc.specs.declared.class.ClassDesc.{ClassDesc}
 use Rattle.class_desc.specs.declared.class.FieldDesc.{FieldDesc}
 use Rattle.class_desc.specs.declared.class.MethodDesc.{MethodDesc}
-use Rattle.class_desc.specs.Names.{is_text}
+use Rattle.java_names.specs.Names.{is_text}
 use Rattle.class_desc.specs.Pool.{Entry, Utf8, ClassRef}
 use Rattle.class_desc.specs.ClassFile.{Parts, file_bytes}
 

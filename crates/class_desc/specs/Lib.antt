@@ -1,13 +1,3 @@
 pub mod ClassFile
-pub mod Descriptor
 pub mod Layout
-pub mod ModifiedUtf8
-pub mod Names
-pub mod Nesting
 pub mod Pool
-pub mod Signature
-pub mod Spelling
-pub mod Strip
-pub mod Types
-pub mod Units
-pub mod View

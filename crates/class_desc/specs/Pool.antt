@@ -1,7 +1,7 @@
 -- The constant pool of a class file (JVMS 4.4), as the list of its entries.
 use Rattle.std.specs.Prelude.{◌≡◌, ℕ, ◌-◌, ◌<◌, ◌^◌, ◌==◌, List, [], ◌∷◌, ◌++◌, length, Option, Some, None, slice_get, if◌then◌else◌}
 use Rattle.std.specs.Int.{w16, to_be_bytes}
-use Rattle.class_desc.specs.Names.{is_among}
+use Rattle.java_names.specs.Names.{is_among}
 
 pub data Entry : Type 0 where
   -- CONSTANT_Utf8 (JVMS 4.4.7)

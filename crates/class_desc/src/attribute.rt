@@ -1,9 +1,8 @@
 ghost use Rattle.std.specs.Prelude.{◌≡◌, IfOk};
 
 use crate::annotation::{AnnDesc, ElemValue};
-use crate::copies::copy_three;
 use crate::value::Value;
-use hdr_core::{List, Memory, Text, TryCopy};
+use hdr_core::{List, Memory, Text, TryCopy, copy_three};
 use std::alloc::Global;
 
 /// An attribute of a class, field, method or component that the product keeps (JVMS 4.7).

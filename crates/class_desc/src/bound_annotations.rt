@@ -2,8 +2,7 @@
 ghost use Rattle.std.specs.Prelude.{◌≡◌, IfOk};
 
 use crate::annotation::{AnnDesc, ElemValue};
-use crate::copies::copy_three;
-use hdr_core::{List, Memory, TryCopy};
+use hdr_core::{List, Memory, TryCopy, copy_three};
 use std::alloc::Global;
 
 /// An annotation, and whether it stands among the visible ones (JVMS 4.7.16, 4.7.17).

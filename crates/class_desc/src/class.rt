@@ -1,8 +1,7 @@
 ghost use Rattle.std.specs.Prelude.{◌≡◌, IfOk};
 
 use crate::attribute::Attr;
-use crate::copies::copy_three;
-use hdr_core::{List, Memory, Text, TryCopy};
+use hdr_core::{List, Memory, Text, TryCopy, copy_three};
 use std::alloc::Global;
 
 /// A class file (JVMS 4.1), its names and descriptors as modified UTF-8.
