@@ -1,0 +1,7 @@
+pub mod Alike
+pub mod Filtered
+pub mod Members
+pub mod Settled
+pub mod Stripped
+pub mod Ways
+pub mod Worlds

@@ -1,0 +1,11 @@
+pub mod Access
+pub mod Alike
+pub mod Flags
+pub mod Membership
+pub mod OneStep
+pub mod Query
+pub mod Resolution
+pub mod Strip
+pub mod Supertypes
+pub mod View
+pub mod World
