@@ -4,7 +4,7 @@ use Rattle.std.specs.List.{flat_map}
 use Rattle.std.specs.Int.{w16, w32, to_be_bytes}
 use Rattle.std.specs.Cmp.Lexicographic.{same_text}
 use Rattle.class_desc.specs.declared.attribute.Attr.{Attr}
-use Rattle.class_desc.specs.Names.{is_text}
+use Rattle.java_names.specs.Names.{is_text}
 use Rattle.class_desc.specs.Pool.{Entry}
 use Rattle.class_desc.specs.ClassFile.{NamesForm, attribute_bytes, IsPassed, AttributesSpell}
 use Rattle.class_reader.specs.Reading.{◌>>=◌, number_at, piece_at, attribute_at, pass_all, attributes_at}

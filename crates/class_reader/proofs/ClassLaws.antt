@@ -10,7 +10,7 @@ use Rattle.class_desc.specs.declared.attribute.Attr.{Attr}
 use Rattle.class_desc.specs.declared.class.ClassDesc.{ClassDesc}
 use Rattle.class_desc.specs.declared.class.FieldDesc.{FieldDesc}
 use Rattle.class_desc.specs.declared.class.MethodDesc.{MethodDesc}
-use Rattle.class_desc.specs.Names.{is_text, is_class_name}
+use Rattle.java_names.specs.Names.{is_text, is_class_name}
 use Rattle.class_desc.specs.Pool.{Entry, ClassRef, entry_bytes, entry_of}
 use Rattle.class_desc.specs.ClassFile.{magic, object_name, NamesPlainClass, NamesSuper, NamesClasses, EachSpells, CountedSpells, FieldSpells, MethodSpells, field_key, method_key, AttributesSpell, Parts, SpellsOver, ClassSpells}
 use Rattle.class_reader.specs.declared.fault.ClassFault.{ClassFault}

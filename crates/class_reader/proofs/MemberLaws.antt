@@ -6,7 +6,7 @@ use Rattle.std.specs.Cmp.Lexicographic.{same_text}
 use Rattle.std.proofs.lemmas.List.Folds.{list_any-append}
 use Rattle.class_desc.specs.declared.class.FieldDesc.{FieldDesc}
 use Rattle.class_desc.specs.declared.class.MethodDesc.{MethodDesc}
-use Rattle.class_desc.specs.Names.{is_text, is_field_name, is_method_name}
+use Rattle.java_names.specs.Names.{is_text, is_field_name, is_method_name}
 use Rattle.class_desc.specs.Pool.{Entry}
 use Rattle.class_desc.specs.ClassFile.{is_field_descriptor, is_method_descriptor, NamesForm, AttributesSpell, MemberSpells, FieldSpells, MethodSpells, EachSpells, CountedSpells, Key, is_key, field_key, method_key}
 use Rattle.class_reader.specs.declared.member.Member.{Member}

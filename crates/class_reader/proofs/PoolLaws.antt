@@ -3,7 +3,7 @@ use Rattle.std.proofs.Common.{◌≡◌, ℕ, ◌+◌, ◌-◌, ◌^◌, ◌<◌
 use Rattle.std.specs.List.{flat_map, AllByRecursion}
 use Rattle.std.specs.Int.{w16, to_be_bytes}
 use Rattle.std.proofs.lemmas.Bool.{eqb-true, eqb-false}
-use Rattle.class_desc.specs.Names.{is_class_name}
+use Rattle.java_names.specs.Names.{is_class_name}
 use Rattle.class_desc.specs.Pool.{Entry, Utf8, ClassRef, Other, other_length, entry_bytes, EntryFits, entry_of}
 use Rattle.class_desc.specs.ClassFile.{is_plain, NamesForm, NamesPlainClass}
 use Rattle.class_reader.specs.Reading.{◌>>=◌, not_yet, number_at, piece_at, times, text_entry_at, class_entry_at, other_of, other_entry_at, entry_at, pool_at, text_in, text_named, class_in, class_named, checked, text_at, class_at}

@@ -6,7 +6,7 @@ use Rattle.class_desc.specs.declared.attribute.Attr.{Attr}
 use Rattle.class_desc.specs.declared.class.ClassDesc.{ClassDesc}
 use Rattle.class_desc.specs.declared.class.FieldDesc.{FieldDesc}
 use Rattle.class_desc.specs.declared.class.MethodDesc.{MethodDesc}
-use Rattle.class_desc.specs.Names.{is_text, is_class_name, is_field_name, is_method_name}
+use Rattle.java_names.specs.Names.{is_text, is_class_name, is_field_name, is_method_name}
 use Rattle.class_desc.specs.Pool.{Entry, Utf8, ClassRef, Other, other_length, entry_of}
 use Rattle.class_desc.specs.ClassFile.{is_plain, is_field_descriptor, is_method_descriptor, object_name, magic, Key, is_key}
 use Rattle.class_reader.specs.declared.fault.ClassKind.TheVariants.{NotYet}

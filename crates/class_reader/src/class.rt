@@ -1,5 +1,5 @@
 ghost use Rattle.std.specs.Prelude.{◌≡◌, ℕ, ◌≤◌, ◌^◌, List, length, IfOk, Ok};
-ghost use Rattle.class_desc.specs.Names.{is_text};
+ghost use Rattle.java_names.specs.Names.{is_text};
 ghost use Rattle.class_desc.specs.ClassFile.{object_name, ClassSpells};
 ghost use Rattle.class_reader.specs.Reading.{Gives, Answers, AreBytes, times, version_at, class_flags_at, class_at, super_at, interfaces_at, head_at, class_over_at, file_at, class_of};
 

@@ -5,7 +5,7 @@ ghost use Rattle.class_reader.specs.Seen.{text_seen};
 ghost use Rattle.class_desc.specs.ClassFile.{is_plain as is_plain_text, is_field_descriptor as is_field_descriptor_of, is_method_descriptor as is_method_descriptor_of};
 
 use crate::fault::{ClassFault, ReadErr};
-use class_desc::{is_class_name, is_field_name, is_method_name};
+use java_names::{is_class_name, is_field_name, is_method_name};
 
 /// What a text has to be where it is named.
 #[derive(Clone, Copy)]

@@ -8,7 +8,7 @@ use Rattle.class_desc.specs.declared.attribute.Attr.{Attr}
 use Rattle.class_desc.specs.declared.class.ClassDesc.{ClassDesc}
 use Rattle.class_desc.specs.declared.class.FieldDesc.{FieldDesc}
 use Rattle.class_desc.specs.declared.class.MethodDesc.{MethodDesc}
-use Rattle.class_desc.specs.Names.{is_class_name}
+use Rattle.java_names.specs.Names.{is_class_name}
 use Rattle.class_desc.specs.Pool.{Entry, EntryFits, entry_of}
 use Rattle.class_desc.specs.ClassFile.{is_plain, NamesForm, NamesPlainClass, NamesSuper, NamesClasses, MemberSpells, FieldSpells, MethodSpells, EachSpells, AttributesSpell, ClassSpells, IsValid}
 use Rattle.class_desc.specs.Layout.{Need, TextNeed, ClassNeed, is_need, class_needs, super_needs, field_needs, method_needs, needs, pool_of, number_in, entry_in, super_number, attributes_bytes, member_bytes, field_bytes, method_bytes, parts_over, layout}

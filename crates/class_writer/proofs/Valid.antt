@@ -10,6 +10,7 @@ use Rattle.class_desc.specs.declared.class.MethodDesc.{MethodDesc}
 use Rattle.class_desc.specs.Pool.{Entry, Utf8, ClassRef, Other, entry_bytes, EntryFits, entry_of, NamesText, NamesClass}
 use Rattle.class_desc.specs.ClassFile.{NamesSuper, NamesClasses, FieldSpells, MethodSpells, EachSpells, SpellsOver, IsValid}
 use Rattle.class_desc.specs.Layout.{Need, TextNeed, ClassNeed, is_need, class_needs, super_needs, field_needs, method_needs, needs, firsts, pool_of}
+use Rattle.lemmas.proofs.Lists.{all_append, all_front, all_behind}
 use Rattle.class_writer.specs.declared.error.PoolErr.{PoolErr}
 use Rattle.class_writer.specs.declared.error.PoolErr.TheVariants.{TextTooLong, TooMany, PoolFull}
 use Rattle.class_writer.specs.Refusal.{or_next, first_refusal, need_refusal, count_refusal, pool_refusal, refusal}
@@ -107,18 +108,6 @@ module _ {A : Type 0} (same : A → A → Bool) where
   unfolding IsDistinct
   firsts_distinct [] = tt
   firsts_distinct (x ∷ xs) = (all_differ x (firsts same xs), filter_distinct (λ other. not (same x other)) (firsts same xs) (firsts_distinct xs))
-
-all_append : {A : Type 0} (Holds : A → Type 0) (xs ys : List A) → AllByRecursion Holds xs → AllByRecursion Holds ys → AllByRecursion Holds (xs ++ ys)
-all_append Holds [] ys a b = b
-all_append Holds (x ∷ xs) ys a b = (a.0, all_append Holds xs ys a.1 b)
-
-all_front : {A : Type 0} (Holds : A → Type 0) (xs ys : List A) → AllByRecursion Holds (xs ++ ys) → AllByRecursion Holds xs
-all_front Holds [] ys all = tt
-all_front Holds (x ∷ xs) ys all = (all.0, all_front Holds xs ys all.1)
-
-all_behind : {A : Type 0} (Holds : A → Type 0) (xs ys : List A) → AllByRecursion Holds (xs ++ ys) → AllByRecursion Holds ys
-all_behind Holds [] ys all = all
-all_behind Holds (x ∷ xs) ys all = all_behind Holds xs ys all.1
 
 -- the bytes of the entry at a place
 bytes_at : (entries : List Entry) (k : ℕ) (entry : Entry) → AllByRecursion IsByte (flat_map entry_bytes entries) → slice_get entries k ≡ Some entry → AllByRecursion IsByte (entry_bytes entry)

@@ -2,7 +2,7 @@ ghost use Rattle.std.specs.Prelude.{◌≡◌, []};
 ghost use Rattle.std.specs.List.{AllByRecursion};
 ghost use Rattle.class_desc.specs.Layout.{HasNoAttributes};
 
-use crate::lists::{list, none, text};
+use crate::lists::{list, none, text, texts};
 use class_desc::{ClassDesc, FieldDesc, MethodDesc};
 use class_writer::{PoolErr, write_class};
 use hdr_core::List;
@@ -117,6 +117,37 @@ fn writes_files(rt: HostRuntime) {
         let file = written(&rt, case).expect(&rt, "a file");
         assert!(rt; file.as_slice() == case.file);
     }
+}
+
+/// A of the superclass B and the superinterfaces P and Q, with the fields f and g.
+fn wide_class<R: Abort + AllocGlobal>(rt: &R) -> ClassDesc
+    ensures { HasNoAttributes result }
+{
+    let fields = [field_of(rt, b"f", b"I"), field_of(rt, b"g", b"J")];
+    ClassDesc {
+        minor: 0,
+        major: 61,
+        flags: 0x0021,
+        name: text(rt, b"A"),
+        super_name: Some(text(rt, b"B")),
+        interfaces: texts(rt, &[b"P", b"Q"]),
+        fields: list(rt, fields),
+        methods: none(rt),
+        attrs: none(rt),
+    }
+}
+
+const WIDE: &[u8] = b"\xca\xfe\xba\xbe\0\0\0\x3d\0\x0d\
+    \x01\0\x01A\x07\0\x01\x01\0\x01B\x07\0\x03\x01\0\x01P\x07\0\x05\x01\0\x01Q\x07\0\x07\
+    \x01\0\x01f\x01\0\x01I\x01\0\x01g\x01\0\x01J\
+    \0\x21\0\x02\0\x04\0\x02\0\x06\0\x08\
+    \0\x02\0\x01\0\x09\0\x0a\0\0\0\x01\0\x0b\0\x0c\0\0\
+    \0\0\0\0";
+
+#[test]
+fn writes_superinterfaces_and_fields(rt: HostRuntime) {
+    let file = write_class(rt.alloc(), &wide_class(&rt)).expect(&rt, "a file");
+    assert!(rt; file.as_slice() == WIDE);
 }
 
 /// Methods of the names m0, m1 and so on.

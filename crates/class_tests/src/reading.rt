@@ -35,6 +35,14 @@ const MEMBERS: &[u8] = b"\xca\xfe\xba\xbe\0\0\0\x3d\0\x0c\
     \0\x01\0\x0b\0\x08\0\x01\0\x09\0\0\0\x0d\0\0\0\x01\0\0\0\x01\xb1\0\0\0\0\
     \0\0";
 
+/// A of the superclass B and the superinterfaces P and Q, with the fields f and g.
+const WIDE: &[u8] = b"\xca\xfe\xba\xbe\0\0\0\x3d\0\x0d\
+    \x07\0\x02\x01\0\x01A\x07\0\x04\x01\0\x01B\x07\0\x06\x01\0\x01P\x07\0\x08\x01\0\x01Q\
+    \x01\0\x01f\x01\0\x01I\x01\0\x01g\x01\0\x01J\
+    \0\x21\0\x01\0\x03\0\x02\0\x05\0\x07\
+    \0\x02\0\x01\0\x09\0\x0a\0\0\0\x04\0\x0b\0\x0c\0\0\
+    \0\0\0\0";
+
 fn add<R: Abort>(rt: &R, told: &mut Vec<u8>, bytes: &[u8]) {
     told.extend_from_slice(bytes).expect(rt, "memory");
 }
@@ -53,10 +61,14 @@ fn add_super<R: Abort>(rt: &R, told: &mut Vec<u8>, name: &Option<Text>) {
     }
 }
 
-/// The name, the superclass and the members.
+/// The name, the superclass, the superinterfaces and the members.
 fn tell<R: Abort>(rt: &R, told: &mut Vec<u8>, class: &ClassDesc) {
     add(rt, told, class.name.bytes());
     add_super(rt, told, &class.super_name);
+    for name in class.interfaces.items() {
+        add(rt, told, b" ");
+        add(rt, told, name.bytes());
+    }
     for field in class.fields.items() {
         add_member(rt, told, &field.name, &field.descriptor);
     }
@@ -67,11 +79,12 @@ fn tell<R: Abort>(rt: &R, told: &mut Vec<u8>, class: &ClassDesc) {
 
 #[test]
 fn reads_classes(rt: HostRuntime) {
-    let cases: [(&[u8], &[u8]); 4] = [
+    let cases: [(&[u8], &[u8]); 5] = [
         (PLAIN, b"A java/lang/Object"),
         (REVERSED, b"A java/lang/Object"),
         (REPEATED, b"A java/lang/Object"),
         (MEMBERS, b"A java/lang/Object f:I p:()V <clinit>:()V m:()V"),
+        (WIDE, b"A B P Q f:I g:J"),
     ];
     for (bytes, want) in cases {
         let class = read_class(rt.alloc(), bytes).expect(&rt, "a class");
