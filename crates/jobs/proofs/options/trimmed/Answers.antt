@@ -1,5 +1,0 @@
-use Rattle.jobs.proofs.Trimmed.{is_trimmed}
-use Rattle.jobs.proofs.options.trimmed.Goals as goal
-
-pub returns : goal.returns
-returns c = is_trimmed c.args.path.now c.trim_end_matches.result.now c.trim_end_matches.ensures.matches

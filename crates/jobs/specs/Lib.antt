@@ -1,4 +1,0 @@
-pub mod Parts
-pub mod Paths
-pub mod Seen
-pub mod Words
