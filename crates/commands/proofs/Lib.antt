@@ -1,0 +1,9 @@
+pub mod Folders
+pub mod Inserted
+pub mod Options
+pub mod Rising
+pub mod Runs
+pub mod Sole
+pub mod Spelled
+pub mod Told
+pub mod Written

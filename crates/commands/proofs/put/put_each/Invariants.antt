@@ -1,0 +1,14 @@
+use Rattle.std.proofs.Common.{◌≡◌, map, take}
+use Rattle.commands.specs.Stops.{held_file}
+use Rattle.commands.specs.Tells.{with_files}
+use Rattle.commands.proofs.put.put_each.Given as goal
+
+-- so far those that were gone over are written, and no call failed
+abbrev pub invariant-loop-file : goal.invariant-loop-file
+invariant-loop-file g l =
+    let written = g.O.Outs.written in
+    let faults = g.O.Outs.faults in
+    record {
+      written : written l.outs ≡ with_files (written l.fn.outs) (map held_file (take l.file-index l.files));
+      faults : faults l.outs ≡ faults l.fn.outs;
+    }

@@ -1,0 +1,9 @@
+pub mod Outcome
+pub mod Outside
+pub mod Parts
+pub mod Paths
+pub mod Phases
+pub mod Runs
+pub mod Statuses
+pub mod Stops
+pub mod Tells

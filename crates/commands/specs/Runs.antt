@@ -1,0 +1,104 @@
+-- What is true of every run: of the job of its words, its status, and the outside before and after.
+--
+-- Where an answer is said to come, want of memory may be answered in its place.
+use Rattle.std.specs.Prelude.{◌≡◌, ◌⊎◌, ℕ, ◌<◌, List, None, IfSome, IsSome}
+use Rattle.hdr_core.specs.Causes.{grown, GrewByFront}
+use Rattle.command_line.specs.Words.{Job, usage_line}
+use Rattle.commands.specs.Paths.{File}
+use Rattle.commands.specs.declared.status.Status.{Status}
+use Rattle.commands.specs.declared.status.Status.TheVariants.{Done, Diagnosed, Usage, ReadFault, WriteFault, Memory}
+use Rattle.commands.specs.Outcome.{Outcome, outcome}
+use Rattle.commands.specs.Outside.{Outside}
+use Rattle.commands.specs.Stops.{IsPathOfJob}
+use Rattle.commands.specs.Tells.{fault_line, with_files, GrewByFiles}
+
+-- The run came to this outcome: to its status, by writing its files and telling its texts.
+pub record Meets (o : Outcome) (status : Status) (before after : Outside) : Type 0 where
+  pub is : status ≡ o.status
+  pub files : after.outs.written ≡ with_files before.outs.written o.files
+  pub out : after.out.told ≡ grown before.out.told o.out
+  pub err : after.err.told ≡ grown before.err.told o.err
+
+-- It wrote a front of the files of this outcome, and told fronts of its texts.
+pub record MeetsFront (o : Outcome) (before after : Outside) : Type 0 where
+  pub files : GrewByFiles before.outs.written after.outs.written o.files
+  pub out : GrewByFront before.out.told after.out.told o.out
+  pub err : GrewByFront before.err.told after.err.told o.err
+
+-- a fact of the outcome of the job, where the files tell what they hold
+abbrev pub OfOutcome : Job → Outside → (Outcome → Type 0) → Type 0
+OfOutcome job before IsSo = IfSome before.files.held (λ held. IsSo (outcome job held))
+
+-- a call on the files failed
+abbrev pub FilesFailed : Outside → Outside → Type 0
+FilesFailed before after = before.files.faults < after.files.faults
+
+-- a write to standard error failed
+abbrev pub ErrFailed : Outside → Outside → Type 0
+ErrFailed before after = before.err.faults < after.err.faults
+
+-- a call on one of the others failed
+abbrev pub OthersFailed : Outside → Outside → Type 0
+OthersFailed before after =
+    (before.outs.faults < after.outs.faults)
+    ⊎ ((before.out.faults < after.out.faults) ⊎ ErrFailed before after)
+
+-- no call failed
+pub record NoneFailed (before after : Outside) : Type 0 where
+  pub files : FilesFailed before after → ⊥
+  pub others : OthersFailed before after → ⊥
+
+-- each count is what it was
+pub record Stood (before after : Outside) : Type 0 where
+  pub files : after.files.faults ≡ before.files.faults
+  pub outs : after.outs.faults ≡ before.outs.faults
+  pub out : after.out.faults ≡ before.out.faults
+  pub err : after.err.faults ≡ before.err.faults
+
+-- The line of the refusal is told, and nothing else is done. The outcome is that of any files.
+pub record Refuses (job : Job) (status : Status) (before after : Outside) : Type 0 where
+  pub is : (status ≡ Usage) ⊎ (status ≡ Memory)
+  pub files : after.files ≡ before.files
+  pub outs : after.outs ≡ before.outs
+  pub front : (held : List File) → MeetsFront (outcome job held) before after
+  pub whole : status ≡ Usage → (ErrFailed before after → ⊥) →
+      (held : List File) → Meets (outcome job held) status before after
+
+-- The line of the root or used path at which a call failed is told, and nothing is written.
+pub record TellsFault (job : Job) (status : Status) (before after : Outside) : Type 0 where
+  pub is : (status ≡ ReadFault) ⊎ (status ≡ Memory)
+  pub outs : after.outs ≡ before.outs
+  pub path : List ℕ
+  pub named : IfSome before.files.held (λ held. IsPathOfJob held job path)
+  pub front : GrewByFront before.err.told after.err.told (fault_line path)
+  pub whole : status ≡ ReadFault → (ErrFailed before after → ⊥) →
+      after.err.told ≡ grown before.err.told (fault_line path)
+
+pub record Runs (job : Job) (status : Status) (before after : Outside) : Type 0 where
+  -- Usage comes where the words are no job, also where telling of it failed, and nowhere else.
+  pub usage : IsSome (usage_line job) → Refuses job status before after
+  pub usage_only : status ≡ Usage → IsSome (usage_line job)
+  -- ReadFault comes where a call on the files failed, and nowhere else.
+  pub files_first : FilesFailed before after → TellsFault job status before after
+  pub read_fault : status ≡ ReadFault → FilesFailed before after
+  -- WriteFault comes where another call failed and none on the files, and nowhere else.
+  pub others_next : usage_line job ≡ None → (FilesFailed before after → ⊥) →
+      OthersFailed before after → (status ≡ WriteFault) ⊎ (status ≡ Memory)
+  pub write_fault : status ≡ WriteFault → OthersFailed before after
+  -- Unless a call on the files failed, what was written and told are fronts of the outcome's.
+  pub fronts : (FilesFailed before after → ⊥) →
+      OfOutcome job before (λ o. MeetsFront o before after)
+  -- On Done and Diagnosed no call failed, and the outcome is met.
+  pub met : (status ≡ Done) ⊎ (status ≡ Diagnosed) →
+      Stood before after × OfOutcome job before (λ o. Meets o status before after)
+  -- Where no call failed, a job is done or diagnosed, as its outcome says.
+  pub complete : usage_line job ≡ None → NoneFailed before after →
+      (status ≡ Done) ⊎ ((status ≡ Diagnosed) ⊎ (status ≡ Memory))
+  pub exact : usage_line job ≡ None → NoneFailed before after →
+      OfOutcome job before (λ o. (status ≡ o.status) ⊎ (status ≡ Memory))
+  -- Also where the files don't tell what they hold: nothing is written on Usage, ReadFault and
+  -- Diagnosed, nothing is told on Done, and no command of today calls standard output.
+  pub unwritten : (status ≡ Usage) ⊎ ((status ≡ ReadFault) ⊎ (status ≡ Diagnosed)) →
+      after.outs ≡ before.outs
+  pub silent : status ≡ Done → after.err ≡ before.err
+  pub out : after.out ≡ before.out

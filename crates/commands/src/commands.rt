@@ -1,0 +1,64 @@
+//! The top call.
+ghost use Rattle.std.specs.Prelude.{◌≡◌, map, string_bytes, IfOk, IfErr, IfSome};
+ghost use Rattle.command_line.specs.Words.{job};
+ghost use Rattle.command_line.specs.Seen.{command_seen};
+ghost use Rattle.commands.specs.Outcome.{outcome_of, made, diagnosed};
+ghost use Rattle.commands.specs.Outside.{outside, CanRise};
+ghost use Rattle.commands.specs.Runs.{Runs};
+ghost use Rattle.commands.specs.Stops.{StopsOnly, FaultRises, IsPathOf, held_file};
+
+use crate::ijar::strip_input;
+use crate::put::put_files;
+use crate::status::Status;
+use crate::stop::Stop;
+use crate::tell::{tell_refusal, tell_stop};
+use command_line::{Command, Job, job_of};
+use hdr_core::{Files, Gate, HeldFile, Outs, Sink};
+use std::alloc::Global;
+use std::thread::Threads;
+
+/// Makes the files of a command: those of its outcome, or else it says why there are none.
+fn make<F: Files>(alloc: Global, command: Command<'_>, files: &mut F) -> Result<Vec<HeldFile>, Stop>
+    ensures files { IfOk result (λ list. IfSome (F.held files.old) (λ held.
+        outcome_of (command_seen command.entry) held ≡ made (map held_file list.items))) }
+    ensures stops { IfErr result (λ stop. StopsOnly stop
+        (λ path. IfSome (F.held files.old) (λ held. IsPathOf held (command_seen command.entry) path))
+        (λ list. IfSome (F.held files.old) (λ held.
+        outcome_of (command_seen command.entry) held ≡ diagnosed list))) }
+    ensures faults { FaultRises result (F.faults files.old) (F.faults files.new) }
+{
+    match command {
+        Command::Ijar { input, output } => strip_input(alloc, input, output, files),
+    }
+}
+
+/// Does the job of the words, which stand behind the program's name.
+///
+/// `Runs`, in `specs/Runs.antt`, says of each answer when it comes, and what was written and told.
+/// What is said of contents holds where the objects tell them.
+pub fn run<R: Threads + Sync, F: Files, O: Outs, S: Sink, G: Gate>(
+    rt: &R,
+    alloc: Global,
+    words: &[String],
+    files: &mut F,
+    outs: &mut O,
+    out: &mut S,
+    err: &mut S,
+    gate: &G,
+) -> Status
+    requires { CanRise (outside F.Files O.Outs S.Sink files.old outs.old out.old err.old) }
+    ensures { let before = outside F.Files O.Outs S.Sink files.old outs.old out.old err.old in
+        let after = outside F.Files O.Outs S.Sink files.new outs.new out.new err.new in
+        Runs (job (map string_bytes words.now)) result before after }
+{
+    let Ok(job) = job_of(alloc, words) else {
+        return Status::Memory;
+    };
+    match job {
+        Job::Refused(refusal) => tell_refusal(alloc, refusal, err),
+        Job::Doing(command) => match make(alloc, command, files) {
+            Ok(made) => put_files(&made, outs),
+            Err(stop) => tell_stop(alloc, stop, err),
+        },
+    }
+}
