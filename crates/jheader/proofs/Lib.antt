@@ -1,6 +1,0 @@
-pub mod Ends
-pub mod Options
-pub mod Sole
-pub mod Spelled
-pub mod Stopped
-pub mod Told

@@ -3,8 +3,8 @@
 
 mod stream;
 
+use commands::{Status, run};
 use hdr_core::{DirFiles, DirOuts, NoGate, StdSink};
-use jheader::{Status, run};
 use std::io::ErrorKind;
 use std::process::ExitCode;
 use std::{env, io};
