@@ -56,8 +56,8 @@ fn prints_a_front_before_a_fault(rt: HostRuntime) {
     }
 }
 
-/// In their order. Each differs from the next in one field that comes earlier in the order than those
-/// in which it is greater.
+/// In their order. Each differs from the next in one field that comes earlier in the order than
+/// those in which it is greater.
 const ORDERED: &[Row] = &[
     (0, b"z", 9, Code::L9, b"z"),
     (1, b"z", 1, Code::L9, b"z"),

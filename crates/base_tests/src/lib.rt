@@ -1,5 +1,5 @@
-//! Examples of values and of calls to the outside: the tests of hdr_core, in a crate of their own, so
-//! that its proofs are checked once.
+//! Examples of values and of calls to the outside: the tests of hdr_core, in a crate of their
+//! own, so that its proofs are checked once.
 #![tactic(auto)]
 
 #[cfg(test)]

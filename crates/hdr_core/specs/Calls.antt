@@ -1,4 +1,5 @@
--- The calls of an object that fails at listed ones. Calls are numbered from 0; the number stands still at the end of 32 bits.
+-- The calls of an object that fails at listed ones. Calls are
+-- numbered from 0; the number stands still at the end of 32 bits.
 use Rattle.std.specs.Prelude.{◌≡◌, ℕ, ◌+◌, ◌-◌, ◌^◌, min, List, Contains}
 use Rattle.hdr_core.specs.declared.calls.Calls.{Calls}
 

@@ -1,5 +1,6 @@
 -- What a call to the outside world did to the count of faults, and to what is told there.
-use Rattle.std.specs.Prelude.{◌≡◌, ◌≢◌, ℕ, ◌+◌, ◌-◌, ◌^◌, ◌≤◌, min, List, ◌++◌, Option, Some, None, Result, Err, IsErrOf}
+use Rattle.std.specs.Prelude.{◌≡◌, ◌≢◌, ℕ, ◌+◌, ◌-◌, ◌^◌, ◌≤◌, min, List, ◌++◌, Option, Some}
+use Rattle.std.specs.Prelude.{None, Result, Err, IsErrOf}
 
 -- A count of 64 bits rose. It stands still at its end.
 abbrev pub Rose : ℕ → ℕ → Type 0
@@ -18,6 +19,8 @@ abbrev pub grown : Option (List ℕ) → List ℕ → Option (List ℕ)
 grown None more = None
 grown (Some told) more = Some (told ++ more)
 
--- What is told has grown by a front of the text: by nothing, by all of it, or by what lies between.
+-- What is told has grown by a front of the text: by nothing, by all of it, or by what lies
+-- between.
 abbrev pub GrewByFront : Option (List ℕ) → Option (List ℕ) → List ℕ → Type 0
-GrewByFront before after text = (front : List ℕ) × (rest : List ℕ) × (front ++ rest ≡ text) × (after ≡ grown before front)
+GrewByFront before after text =
+    (front : List ℕ) × (rest : List ℕ) × (front ++ rest ≡ text) × (after ≡ grown before front)

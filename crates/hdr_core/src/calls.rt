@@ -9,7 +9,8 @@ pub struct Calls {
 impl Calls {
     ghost use Rattle.std.specs.Prelude.{◌≡◌, ◌≤◌, ◌<◌, ◌^◌, true, false, IsTrue, ◌↔◌};
     ghost use Rattle.hdr_core.specs.Causes.{Rose};
-    ghost use Rattle.hdr_core.specs.Calls.{calls_made, failing_calls, calls_failed, FailsNext, CountsCall};
+    ghost use Rattle.hdr_core.specs.Calls.{calls_made, failing_calls, calls_failed, FailsNext};
+    ghost use Rattle.hdr_core.specs.Calls.{CountsCall};
 
     /// No call was made yet. Takes no memory.
     pub fn of(failing: Vec<u32>) -> Calls

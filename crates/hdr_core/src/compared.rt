@@ -40,7 +40,8 @@ impl Hash for Text {
 impl PartialOrd for Text {
     ghost partial_cmp = { λ x y. Some (slice_cmp nat_cmp x y) };
 
-    ghost laws = { Cmp.partial_order_from_agreeing_total (slice_cmp nat_cmp) nat_list_cmp_total (λ x y. refl) (Prim.search (comparing, rules)) };
+    ghost laws = { Cmp.partial_order_from_agreeing_total (slice_cmp nat_cmp)
+        nat_list_cmp_total (λ x y. refl) (Prim.search (comparing, rules)) };
 
     fn partial_cmp(&self, other: &Text) -> Option<Ordering> {
         Some(self.cmp(other))

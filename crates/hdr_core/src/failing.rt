@@ -1,9 +1,12 @@
 //! Objects in memory that fail at listed calls. Calls are counted from 0.
-ghost use Rattle.std.specs.Prelude.{◌≡◌, ◌≤◌, ◌<◌, ◌^◌, ◌↔◌, [], Some, Err, min, take, length, map, string_bytes, IfOk, IsErrOf, OnOk, OnErr};
+ghost use Rattle.std.specs.Prelude.{◌≡◌, ◌≤◌, ◌<◌, ◌^◌, ◌↔◌, [], Some, Err, min, take, length};
+ghost use Rattle.std.specs.Prelude.{map, string_bytes, IfOk, IsErrOf, OnOk, OnErr};
 ghost use Rattle.hdr_core.specs.Calls.{calls_made, failing_calls, FailsNext, CountsCall};
 ghost use Rattle.hdr_core.specs.Causes.{CountsFault, grown};
-ghost use Rattle.hdr_core.specs.Held.{ListsWhereTold, HoldsPath, HoldsBytes, HoldsWithin, HoldsBeyond, with_file};
-ghost use Rattle.hdr_core.specs.InMemory.{held_files, files_held, files_calls, files_faults, outs_written, outs_calls, outs_faults};
+ghost use Rattle.hdr_core.specs.Held.{ListsWhereTold, HoldsPath, HoldsBytes, HoldsWithin};
+ghost use Rattle.hdr_core.specs.Held.{HoldsBeyond, with_file};
+ghost use Rattle.hdr_core.specs.InMemory.{held_files, files_held, files_calls, files_faults};
+ghost use Rattle.hdr_core.specs.InMemory.{outs_written, outs_calls, outs_faults};
 
 use crate::calls::Calls;
 use crate::errors::{CallErr, FileErr};
@@ -15,7 +18,8 @@ use std::alloc::Global;
 
 /// Files in memory. Listings and readings are counted together.
 ///
-/// A path that stands twice is held with the bytes of its first file. Each reading goes over the files.
+/// A path that stands twice is held with the bytes of
+/// its first file. Each reading goes over the files.
 #[derive(Drop)]
 pub struct MemFiles {
     calls: Calls,
@@ -145,7 +149,8 @@ impl Outs for MemOuts {
     }
 }
 
-/// A sink in memory. A write takes `step` bytes of a piece, or the whole piece where that is shorter.
+/// A sink in memory. A write takes `step` bytes of a
+/// piece, or the whole piece where that is shorter.
 #[derive(Drop)]
 pub struct MemSink {
     calls: Calls,

@@ -22,7 +22,8 @@ impl Faults {
 
     /// What a call answers after an error of the system. Each but want of memory is counted.
     pub(crate) fn refuse(&mut self, error: &Error) -> CallErr
-        ensures failed { result ≡ CallErr.Failed → Rose (fault_count self.old) (fault_count self.new) }
+        ensures failed { result ≡ CallErr.Failed
+            → Rose (fault_count self.old) (fault_count self.new) }
         ensures kept { result ≢ CallErr.Failed → fault_count self.new ≡ fault_count self.old }
         ensures later { fault_count self.old ≤ fault_count self.new }
     {

@@ -1,6 +1,8 @@
-ghost use Rattle.std.specs.Prelude.{◌≡◌, ℕ, ◌<◌, ◌^◌, List, Option, map, string_bytes, IfOk, IsErrOf, OnOk};
+ghost use Rattle.std.specs.Prelude.{◌≡◌, ℕ, ◌<◌, ◌^◌, List, Option, map, string_bytes, IfOk};
+ghost use Rattle.std.specs.Prelude.{IsErrOf, OnOk};
 ghost use Rattle.hdr_core.specs.Causes.{CountsFault};
-ghost use Rattle.hdr_core.specs.Held.{ListsWhereTold, HoldsPath, HoldsBytes, HoldsWithin, HoldsBeyond};
+ghost use Rattle.hdr_core.specs.Held.{ListsWhereTold, HoldsPath, HoldsBytes, HoldsWithin};
+ghost use Rattle.hdr_core.specs.Held.{HoldsBeyond};
 
 use crate::errors::{CallErr, FileErr};
 use std::alloc::Global;
@@ -27,8 +29,8 @@ pub trait Files {
 
     /// Makes `into` the bytes of a file. After a refusal nothing is known of `into`.
     ///
-    /// Where the files are told the path is one of theirs, so no caller can bring a fault about by a
-    /// strange path.
+    /// Where the files are told the path is one of theirs, so
+    /// no caller can bring a fault about by a strange path.
     fn read(&mut self, path: &str, into: &mut Vec<u8>) -> Result<(), FileErr>
         requires { HoldsPath (held self.old) path.now }
         ensures bytes { OnOk result (HoldsBytes (held self.old) path.now into.new.items) }

@@ -1,4 +1,5 @@
-ghost use Rattle.std.specs.Prelude.{◌≡◌, ℕ, ◌≤◌, ◌<◌, ◌+◌, List, Option, None, length, nat_le, vec_len, IfOk, IfSome, IsTrue, OnOk};
+ghost use Rattle.std.specs.Prelude.{◌≡◌, ℕ, ◌≤◌, ◌<◌, ◌+◌, List, Option, None, length, nat_le};
+ghost use Rattle.std.specs.Prelude.{vec_len, IfOk, IfSome, IsTrue, OnOk};
 ghost use Rattle.std.specs.Io.KnownBytes.{Appends, Consumes, IsAtEnd};
 ghost use Rattle.hdr_core.specs.Faults.{fault_count};
 ghost use Rattle.hdr_core.specs.Readings.{IsRead};
@@ -24,8 +25,9 @@ const COMPARED: usize = 4_096;
 
 /// The files of the system's folders. It doesn't say what they hold.
 ///
-/// A root that is a symbolic link is followed, since the user named it. Below a root symbolic links are passed over, and
-/// so is all that is neither a file nor a folder. A root that isn't there has no files. A name that isn't UTF-8 is a
+/// A root that is a symbolic link is followed, since the user named it. Below a
+/// root symbolic links are passed over, and so is all that is neither a file nor
+/// a folder. A root that isn't there has no files. A name that isn't UTF-8 is a
 /// fault, and so is a root below which more than 4,194,304 entries are met.
 #[derive(Drop)]
 pub struct DirFiles<R> {
@@ -72,7 +74,8 @@ impl<R: rt::Files + AllocGlobal + Clone + Drop> Files for DirFiles<R> {
     }
 }
 
-// The files that were met, the folders that are still to be entered, and how many more entries may be met.
+// The files that were met, the folders that are still
+// to be entered, and how many more entries may be met.
 #[derive(Drop)]
 struct Walk {
     files: Vec<String>,
@@ -116,7 +119,8 @@ impl Walk {
         alloc: Global,
         folder: &str,
     ) -> io::Result<()>
-        ensures { OnOk result (self.new.left + vec_len self.new.folders ≤ self.old.left + vec_len self.old.folders) }
+        ensures { OnOk result (self.new.left + vec_len self.new.folders
+            ≤ self.old.left + vec_len self.old.folders) }
     {
         for entry in fs::read_dir(rt, folder)? {
             let entry = entry?;
@@ -151,8 +155,8 @@ impl Walk {
     }
 }
 
-// Reads a whole file, and says whether it is short enough. Of a longer one no more is read than shows
-// that it is longer.
+// Reads a whole file, and says whether it is short enough. Of
+// a longer one no more is read than shows that it is longer.
 fn read_file<R: rt::Files>(
     rt: &R,
     path: &str,
@@ -173,7 +177,8 @@ fn read_pieces<R: Read + Drop>(
 ) -> io::Result<bool>
     requires { 0 < length buffer.old }
     ensures fits { IfOk result (λ fits. fits ≡ nat_le (length into.new.items) LONGEST_FILE) }
-    ensures bytes { IfOk result (λ fits. IfSome (R.remaining file) (λ held. IsRead held fits into.new.items)) }
+    ensures bytes { IfOk result (λ fits. IfSome (R.remaining file)
+        (λ held. IsRead held fits into.new.items)) }
 {
     into.clear();
     while into.len() <= LONGEST_FILE {
@@ -185,7 +190,8 @@ fn read_pieces<R: Read + Drop>(
     Ok(false)
 }
 
-// Reads once into the buffer, puts what was read behind what is there, and says how many bytes it was.
+// Reads once into the buffer, puts what was read behind
+// what is there, and says how many bytes it was.
 fn read_piece<R: Read>(file: &mut R, buffer: &mut [u8], into: &mut Vec<u8>) -> io::Result<usize>
     ensures within { IfOk result (λ count. count ≤ length buffer.old) }
     ensures behind { IfOk result (λ count. vec_len into.new ≡ vec_len into.old + count) }

@@ -1,4 +1,6 @@
-ghost use Rattle.std.specs.Prelude.{◌≡◌, ◌≢◌, ◌≤◌, ◌<◌, ◌+◌, ◌++◌, ◌∷◌, [], filter, Some, None, Err, length, map, string_bytes, IfOk, IfSome, IsSome, IsErrOf, OnOk, OnErr, MatchOption};
+ghost use Rattle.std.specs.Prelude.{◌≡◌, ◌≢◌, ◌≤◌, ◌<◌, ◌+◌, ◌++◌, ◌∷◌, [], filter, Some, None};
+ghost use Rattle.std.specs.Prelude.{Err, length, map, string_bytes, IfOk, IfSome, IsSome};
+ghost use Rattle.std.specs.Prelude.{IsErrOf, OnOk, OnErr, MatchOption};
 ghost use Rattle.hdr_core.specs.Held.{held_at, is_below, is_under, IsListing, with_file};
 ghost use Rattle.hdr_core.specs.InMemory.{held_files};
 
@@ -31,7 +33,8 @@ fn begins_below(rest: &[u8]) -> bool
 
 // The paths under a root, as often as they stand there.
 fn collect_under(alloc: Global, files: &[HeldFile], root: &str) -> Result<Vec<String>, AllocError>
-    ensures { IfOk result (λ paths. map string_bytes paths.items ≡ filter (is_under root.now) (map (λ file. string_bytes file.path) files.now)) }
+    ensures { IfOk result (λ paths. map string_bytes paths.items
+        ≡ filter (is_under root.now) (map (λ file. string_bytes file.path) files.now)) }
 {
     let mut paths = Vec::new(alloc);
     for file in files {
@@ -49,7 +52,8 @@ pub(crate) fn list_held(
     files: &[HeldFile],
     root: &str,
 ) -> Result<Vec<String>, AllocError>
-    ensures { IfOk result (λ paths. IsListing (held_files files.now) root.now (map string_bytes paths.items)) }
+    ensures { IfOk result
+        (λ paths. IsListing (held_files files.now) root.now (map string_bytes paths.items)) }
 {
     let mut paths = collect_under(alloc, files, root)?;
     paths.sort_unstable();
@@ -59,7 +63,8 @@ pub(crate) fn list_held(
 
 // The first file of a path.
 fn find_held<'a>(files: &'a [HeldFile], path: &str) -> Option<&'a HeldFile>
-    ensures { MatchOption result (held_at (held_files files.now) path.now ≡ None) (λ file. held_at (held_files files.now) path.now ≡ Some file.now.bytes.items) }
+    ensures { MatchOption result (held_at (held_files files.now) path.now ≡ None)
+        (λ file. held_at (held_files files.now) path.now ≡ Some file.now.bytes.items) }
 {
     for file in files {
         if file.path.as_str() == path {
@@ -73,7 +78,9 @@ pub(crate) fn copy_held(files: &[HeldFile], path: &str, into: &mut Vec<u8>) -> R
     requires { IsSome (held_at (held_files files.now) path.now) }
     ensures bytes { OnOk result (held_at (held_files files.now) path.now ≡ Some into.new.items) }
     ensures fits { OnOk result (length into.new.items ≤ LONGEST_FILE) }
-    ensures too_long { IsErrOf result FileErr.TooLong → IfSome (held_at (held_files files.now) path.now) (λ bytes. LONGEST_FILE < length bytes) }
+    ensures too_long { IsErrOf result FileErr.TooLong
+        → IfSome (held_at (held_files files.now) path.now)
+        (λ bytes. LONGEST_FILE < length bytes) }
     ensures sure { result ≢ Err FileErr.Failed }
 {
     let Some(file) = find_held(files, path) else {
@@ -94,7 +101,8 @@ pub(crate) fn push_file(
     path: &str,
     bytes: &[u8],
 ) -> Result<(), AllocError>
-    ensures ok { OnOk result (held_files written.new.items ≡ held_files written.old.items ++ (path.now, bytes.now) ∷ []) }
+    ensures ok { OnOk result (held_files written.new.items
+        ≡ held_files written.old.items ++ (path.now, bytes.now) ∷ []) }
     ensures err { OnErr result (written.new.items ≡ written.old.items) }
 {
     let file = HeldFile {

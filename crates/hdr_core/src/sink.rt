@@ -1,4 +1,5 @@
-ghost use Rattle.std.specs.Prelude.{◌≡◌, ℕ, ◌≤◌, ◌<◌, ◌^◌, Option, List, take, length, IfOk, OnOk, OnErr};
+ghost use Rattle.std.specs.Prelude.{◌≡◌, ℕ, ◌≤◌, ◌<◌, ◌^◌, Option, List, take, length, IfOk};
+ghost use Rattle.std.specs.Prelude.{OnOk, OnErr};
 ghost use Rattle.hdr_core.specs.Causes.{CountsFault, grown, GrewByFront};
 
 use crate::errors::CallErr;
@@ -11,8 +12,8 @@ pub trait Sink {
     /// How many of its calls failed. The count stands still at the end of 64 bits.
     ghost faults: { Self → ℕ };
 
-    /// Takes the first bytes of the piece, and answers how many: at least one of a piece that isn't
-    /// empty.
+    /// Takes the first bytes of the piece, and answers how many: at least one of a piece that
+    /// isn't empty.
     fn write(&mut self, piece: &[u8]) -> Result<usize, CallErr>
         ensures within { IfOk result (λ count. count ≤ length piece.now) }
         ensures some { IfOk result (λ count. 0 < length piece.now → 0 < count) }

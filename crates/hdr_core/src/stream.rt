@@ -8,7 +8,8 @@ use std::io::{Error, ErrorKind, Write};
 
 /// A stream of the system, as standard output. It doesn't say what it was told.
 ///
-/// A write that takes nothing of a piece is a fault. Of the rest no proof speaks: that what the stream takes arrives.
+/// A write that takes nothing of a piece is a fault. Of the
+/// rest no proof speaks: that what the stream takes arrives.
 #[derive(Drop)]
 pub struct StdSink<W> {
     stream: W,

@@ -1,7 +1,9 @@
 //! Objects in memory that never fail.
-ghost use Rattle.std.specs.Prelude.{◌≡◌, ◌≢◌, ◌≤◌, [], Some, Err, length, map, string_bytes, IfOk, IsErrOf, OnOk, OnErr};
+ghost use Rattle.std.specs.Prelude.{◌≡◌, ◌≢◌, ◌≤◌, [], Some, Err, length, map, string_bytes};
+ghost use Rattle.std.specs.Prelude.{IfOk, IsErrOf, OnOk, OnErr};
 ghost use Rattle.hdr_core.specs.Causes.{grown};
-ghost use Rattle.hdr_core.specs.Held.{ListsWhereTold, HoldsPath, HoldsBytes, HoldsWithin, HoldsBeyond, with_file};
+ghost use Rattle.hdr_core.specs.Held.{ListsWhereTold, HoldsPath, HoldsBytes, HoldsWithin};
+ghost use Rattle.hdr_core.specs.Held.{HoldsBeyond, with_file};
 ghost use Rattle.hdr_core.specs.InMemory.{held_files, sure_held, sure_written, sure_told};
 
 use crate::errors::{CallErr, FileErr};
@@ -13,7 +15,8 @@ use std::alloc::Global;
 
 /// Files in memory that never fail.
 ///
-/// A path that stands twice is held with the bytes of its first file. Each reading goes over the files.
+/// A path that stands twice is held with the bytes of
+/// its first file. Each reading goes over the files.
 #[derive(Drop)]
 pub struct SureFiles {
     files: Vec<HeldFile>,

@@ -1,10 +1,11 @@
-ghost use Rattle.std.specs.Prelude.{◌≡◌, IfOk};
+ghost use Rattle.std.specs.Prelude.{◌≡◌, ◌++◌, IfOk, OnOk, OnErr};
 
 use crate::memory::Memory;
 use std::alloc::Global;
 use std::marker::Model;
 
-/// A list of bytes. Names of classes and members are kept as the bytes of modified UTF-8 (JVMS 4.4.7).
+/// A list of bytes. Names of classes and members are
+/// kept as the bytes of modified UTF-8 (JVMS 4.4.7).
 #[derive(Debug, Drop)]
 pub struct Text {
     bytes: Vec<u8>,
@@ -38,6 +39,15 @@ impl Text {
         ensures { IfOk result (λ copy. copy ≡ self.now) }
     {
         Text::of(alloc, self.bytes())
+    }
+
+    /// Puts bytes behind the others, where the text lies.
+    pub fn append(&mut self, bytes: &[u8]) -> Result<(), Memory>
+        ensures ok { OnOk result (self.new ≡ self.old ++ bytes.now) }
+        ensures err { OnErr result (self.new ≡ self.old) }
+    {
+        self.bytes.extend_from_slice(bytes)?;
+        Ok(())
     }
 }
 

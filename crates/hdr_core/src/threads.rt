@@ -13,8 +13,8 @@ use crate::memory::Memory;
 use crate::sure::{SureFiles, SureOuts, SureSink};
 use crate::text::Text;
 
-/// Shows that workers may share and hand over the values of a type: a crate calls this at each such
-/// type of its own.
+/// Shows that workers may share and hand over the values of a type: a crate calls this at each
+/// such type of its own.
 pub fn crosses_threads<T: Sync + Send>() {
     is_shared::<T>();
     is_handed_over::<T>();

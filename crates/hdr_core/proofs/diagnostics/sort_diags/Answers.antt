@@ -26,12 +26,20 @@ same x y e =
     λ i. record { file = files i; line = lines i; code = codes i; name = names i; path = paths i }
 
 -- a vector's items after they were written over as a slice
-written_over : (given written : List Diag) (count : ℕ) → length written ≡ count → take count (written ++ drop (length written) given) ≡ written
+written_over : (given written : List Diag) (count : ℕ) → length written ≡ count
+    → take count (written ++ drop (length written) given) ≡ written
 written_over given written count e = grind (arith, common_steps)
 
 pub returns : goal.returns
 returns c =
     let moved = rw c.as_mut_slice.ensures.value at c.in_ok-sort.ensures.permutation in
-    let whole = written_over c.args.list.items c.sort.new.self c.args.list.len (omega (arith, c.in_ok-sort.ensures.len, c.as_mut_slice.ensures.len)) in
-    let sorted = sorts_dedup order.total-law equality.laws-law order.matches_eq-law same _ _ _ moved c.in_ok-sort.ensures.sorted (rw whole at c.dedup.ensures.filtered) in
-    record { sorted = sorted; sole = λ other sorts. sorts_alike order.total-law _ _ _ sorts sorted }
+    let whole = written_over c.args.list.items c.sort.new.self c.args.list.len
+    (omega (arith, c.in_ok-sort.ensures.len, c.as_mut_slice.ensures.len)) in
+    let sorted = sorts_dedup order.total-law equality.laws-law order.matches_eq-law same _ _ _
+    moved
+    c.in_ok-sort.ensures.sorted (rw whole at c.dedup.ensures.filtered) in
+    record {
+      sorted = sorted;
+      sole =
+          λ other sorts. sorts_alike order.total-law _ _ _ sorts sorted;
+    }

@@ -9,5 +9,7 @@ loop-at-preserved g c =
     let taken = simp take_rest at c.in_ok-count.ensures.bytes in
     record {
       within = omega (arith, fits);
-      taken = appends_more _ _ _ c.loop-at.at c.in_ok-count.count c.args.bytes.now c.loop-at.invariant.taken taken;
+      taken =
+          appends_more _ _ _ c.loop-at.at c.in_ok-count.count c.args.bytes.now
+          c.loop-at.invariant.taken taken;
     }

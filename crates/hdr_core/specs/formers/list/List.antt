@@ -32,19 +32,28 @@ the_empty = []
 abbrev pub the_items : (X : Type 0) → Items X → Items X
 the_items X xs = xs
 
-pub the_items_listed : (X : Type 0) (xs : Items X) → listed _ (children (the_former this) X xs) ≡ the_items X xs
+pub the_items_listed : (X : Type 0) (xs : Items X)
+    → listed _ (children (the_former this) X xs) ≡ the_items X xs
 the_items_listed X xs = list-listed X xs
 
 -- the one field, a vector
 abbrev field : Former {0}
-field = via (vector.the_former this Global) Inside (λ X l. l.items) (λ X v. record { items = v }) (λ X l. refl) (λ X v. refl)
+field =
+    via (vector.the_former this Global) Inside (λ X l. l.items) (λ X v. record { items = v })
+    (λ X l. refl) (λ X v. refl)
 
 module _ (R S : RattleType) (h : R.Denot → S.Denot) where
-  pub the_places : Alike R S h → Alike (outer.the_row R) (outer.the_row S) ((the_former this).map R.Denot S.Denot h)
+  pub the_places : Alike R S h
+      → Alike (outer.the_row R) (outer.the_row S) ((the_former this).map R.Denot S.Denot h)
   the_places alike =
-      let stored = struct_places (inner.the_type R) (inner.the_type S) (vector.mapped h, tt) _ (λ d. refl) refl (laid _ _ _ (vector.the_places global.the_row ghosts R S h alike), tt) in
-      view_places field (list this) view (λ X Y k u. refl) (λ X u. refl) R.Denot S.Denot h (outer.the_row R).coded (outer.the_row S).coded
-      (invariant R.Denot) (invariant S.Denot) (λ u p q. refl) (λ u p q. refl) (λ u e. tt) (λ u e. tt) (over (inner.the_row R)) (over (inner.the_row S)) stored
+      let stored = struct_places (inner.the_type R) (inner.the_type S) (vector.mapped h, tt) _
+      (λ d. refl) refl (laid _ _ _ (vector.the_places global.the_row ghosts R S h alike), tt) in
+      view_places field (list this) view (λ X Y k u. refl) (λ X u. refl) R.Denot S.Denot h
+      (outer.the_row R).coded (outer.the_row S).coded
+      (invariant R.Denot) (invariant S.Denot) (λ u p q. refl) (λ u p q. refl) (λ u e. tt)
+      (λ u e. tt) (over (inner.the_row R)) (over (inner.the_row S)) stored
 
-  pub the_codes_placed : Recodes R S h → Recodes (outer.the_row R) (outer.the_row S) ((the_former this).map R.Denot S.Denot h)
-  the_codes_placed recodes xs = sym (code_map R.coded.code S.coded.code h (λ x. sym (recodes x)) xs)
+  pub the_codes_placed : Recodes R S h
+      → Recodes (outer.the_row R) (outer.the_row S) ((the_former this).map R.Denot S.Denot h)
+  the_codes_placed recodes xs = sym
+      (code_map R.coded.code S.coded.code h (λ x. sym (recodes x)) xs)
