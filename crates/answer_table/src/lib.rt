@@ -1,8 +1,9 @@
 //! Answers that threads share.
 //!
-//! A row of words, each empty or holding the one answer that a list has for it. The list is seen by
-//! contracts alone: whoever knows an answer publishes it, and whoever finds one finds that of the
-//! list, whatever the threads did. No call waits, and none but [`AnswerTable::start`] takes memory.
+//! A row of words, each empty or holding the one answer that a list has for it. The list is seen
+//! by contracts alone: whoever knows an answer publishes it, and whoever finds one finds that of
+//! the list, whatever the threads did. No call waits, and none but [`AnswerTable::start`] takes
+//! memory.
 #![tactic(auto)]
 
 mod answers;

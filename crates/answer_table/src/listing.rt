@@ -2,8 +2,8 @@ use std::marker::Brand;
 
 /// The list of a table's answers, one for each word, which contracts alone see: no value has it.
 ///
-/// Whoever wants a table picks it, by passing `Brand` to a function that starts the table, uses and
-/// closes it, and has no `L` in the types of its signature.
+/// Whoever wants a table picks it, by passing `Brand` to a function that starts the table, uses
+/// and closes it, and has no `L` in the types of its signature.
 pub trait Listing {
     ghost use Rattle.std.specs.Prelude.{List, ℕ};
 

@@ -1,4 +1,5 @@
--- Which numbers of a graph are reached. A graph is a list of lists: each number leads to those of its list.
+-- Which numbers of a graph are reached. A graph is a list of lists: each number leads to those of
+-- its list.
 use Rattle.std.specs.Prelude.{◌≡◌, ℕ, Bool, true, List, [], Contains, slice_index_or}
 
 -- the numbers that a number leads to

@@ -1,4 +1,5 @@
-ghost use Rattle.std.specs.Prelude.{◌≡◌, ◌<◌, ◌↔◌, ℕ, [], ◌∷◌, not, true, false, IfOk, OnOk, length, slice_index_or};
+ghost use Rattle.std.specs.Prelude.{◌≡◌, ◌<◌, ◌↔◌, ℕ, [], ◌∷◌, not, true, false, IfOk, OnOk};
+ghost use Rattle.std.specs.Prelude.{length, slice_index_or};
 ghost use Rattle.reachability.specs.Reached.{IsReached};
 ghost use Rattle.reachability.specs.Search.{Grew, IsAnew};
 
@@ -56,8 +57,8 @@ impl Search {
     }
 }
 
-/// For each number of the graph whether it is reached from those at which one begins. Other numbers
-/// lead nowhere. Each number and each edge is looked at once.
+/// For each number of the graph whether it is reached from those at which one begins. Other
+/// numbers lead nowhere. Each number and each edge is looked at once.
 pub fn reached(alloc: Global, graph: &Rows, begin: &[u32]) -> Result<Vec<bool>, Memory>
     ensures length { IfOk result (λ marks. length marks.items ≡ length graph.now) }
     ensures exact { IfOk result (λ marks. (n : ℕ) → n < length graph.now →
