@@ -1,6 +1,8 @@
--- Modified UTF-8 (JVMS 4.4.7): the units of UTF-16, each by itself in one to three bytes, in the shortest form but for U+0000, which has two.
+-- Modified UTF-8 (JVMS 4.4.7): the units of UTF-16, each by itself in one
+-- to three bytes, in the shortest form but for U+0000, which has two.
 -- So no byte is 0 or above ef, and a surrogate has three bytes, paired or not.
-use Rattle.std.specs.Prelude.{◌≡◌, ℕ, ◌+◌, ◌/◌, ◌%◌, ◌<◌, ◌^◌, ◌&&◌, nat_lt, List, [], ◌∷◌, if◌then◌else◌}
+use Rattle.std.specs.Prelude.{◌≡◌, ℕ, ◌+◌, ◌/◌, ◌%◌, ◌<◌, ◌^◌, ◌&&◌, nat_lt, List, [], ◌∷◌}
+use Rattle.std.specs.Prelude.{if◌then◌else◌}
 use Rattle.std.specs.List.{flat_map, AllByRecursion}
 
 -- the bytes of a unit

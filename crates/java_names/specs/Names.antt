@@ -13,7 +13,8 @@ is_among bytes b = list_any (λ x. x == b) bytes
 
 -- an unqualified name: not empty, and without the bytes . ; [ / (JVMS 4.2.2)
 abbrev pub is_unqualified : List ℕ → Bool
-is_unqualified name = not (length name == 0) && list_all (λ b. not (is_among (codes ".;[/") b)) name
+is_unqualified name = not (length name == 0)
+    && list_all (λ b. not (is_among (codes ".;[/") b)) name
 
 -- a binary name in internal form: unqualified names with / between them (JVMS 4.2.1)
 abbrev pub is_class_name : List ℕ → Bool
@@ -24,11 +25,14 @@ is_field_name = is_unqualified
 
 -- besides, without < and >, or one of the two special names (JVMS 4.2.2)
 abbrev pub is_method_name : List ℕ → Bool
-is_method_name name = (is_unqualified name && list_all (λ b. not (is_among (codes "<>") b)) name) || is_text name (codes "<init>") || is_text name (codes "<clinit>")
+is_method_name name =
+    (is_unqualified name && list_all (λ b. not (is_among (codes "<>") b)) name)
+    || is_text name (codes "<init>") || is_text name (codes "<clinit>")
 
 -- an identifier of signatures: not empty, and without the bytes . ; [ / < > : (JVMS 4.7.9.1)
 abbrev pub is_identifier : List ℕ → Bool
-is_identifier name = not (length name == 0) && list_all (λ b. not (is_among (codes ".;[/<>:") b)) name
+is_identifier name =
+    not (length name == 0) && list_all (λ b. not (is_among (codes ".;[/<>:") b)) name
 
 -- the binary name of a class in a signature: identifiers with / between them (JVMS 4.7.9.1)
 abbrev pub is_binary_name : List ℕ → Bool

@@ -1,4 +1,5 @@
--- Names as paths. A name has the units of UTF-16, each by itself in modified UTF-8 (JVMS 4.4.7); a path is UTF-8.
+-- Names as paths. A name has the units of UTF-16, each by
+-- itself in modified UTF-8 (JVMS 4.4.7); a path is UTF-8.
 use Rattle.std.specs.Prelude.{ℕ, List, Option, Some, None, if◌then◌else◌}
 use Rattle.std.specs.List.{flat_map}
 use Rattle.std.specs.Str.{chars, encode_utf8_all}
@@ -18,8 +19,10 @@ name_of_path path = modified_utf8 (utf16_units path)
 -- the text of the units in UTF-8, where each surrogate has its partner
 abbrev pub path_of_units : Option (List ℕ) → Option (List ℕ)
 path_of_units None = None
-path_of_units (Some units) = if has_unpaired_surrogate units then None else Some (encode_utf8_all (utf16_lossy_chars units))
+path_of_units (Some units) =
+    if has_unpaired_surrogate units then None else Some (encode_utf8_all (utf16_lossy_chars units))
 
--- the path that a name spells: none where it has a surrogate without its partner, or is no modified UTF-8
+-- the path that a name spells: none where it has a
+-- surrogate without its partner, or is no modified UTF-8
 abbrev pub path_of_name : List ℕ → Option (List ℕ)
 path_of_name name = path_of_units (units_of name)

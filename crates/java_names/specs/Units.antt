@@ -1,5 +1,7 @@
 -- The units of modified UTF-8, from their bytes (JVMS 4.4.7).
-use Rattle.std.specs.Prelude.{◌≡◌, ◌+◌, ◌-◌, ◌*◌, ◌&&◌, ◌||◌, ◌==◌, nat_le, ℕ, ◌<◌, ◌^◌, Bool, List, [], ◌∷◌, ◌++◌, Option, Some, None, option_map, is_some, if◌then◌else◌}
+use Rattle.std.specs.Prelude.{◌≡◌, ◌+◌, ◌-◌, ◌*◌, ◌&&◌, ◌||◌, ◌==◌, nat_le, ℕ, ◌<◌, ◌^◌, Bool}
+use Rattle.std.specs.Prelude.{List, [], ◌∷◌, ◌++◌, Option, Some, None, option_map, is_some}
+use Rattle.std.specs.Prelude.{if◌then◌else◌}
 use Rattle.java_names.specs.ModifiedUtf8.{unit_bytes}
 
 -- a byte behind the first of a unit
@@ -11,11 +13,14 @@ is_single_byte a = nat_le 1 a && nat_le a 0x7F
 
 -- U+0000, or the bytes of no shorter unit
 abbrev pub is_byte_pair : ℕ → ℕ → Bool
-is_byte_pair a b = ((a == 0xC0) && (b == 0x80)) || ((nat_le 0xC2 a && nat_le a 0xDF) && is_next_byte b)
+is_byte_pair a b =
+    ((a == 0xC0) && (b == 0x80)) || ((nat_le 0xC2 a && nat_le a 0xDF) && is_next_byte b)
 
 -- the bytes of no shorter unit
 abbrev pub is_byte_triple : ℕ → ℕ → ℕ → Bool
-is_byte_triple a b c = ((((a == 0xE0) && nat_le 0xA0 b) || (nat_le 0xE1 a && nat_le a 0xEF)) && is_next_byte b) && is_next_byte c
+is_byte_triple a b c =
+    ((((a == 0xE0) && nat_le 0xA0 b) || (nat_le 0xE1 a && nat_le a 0xEF)) && is_next_byte b)
+    && is_next_byte c
 
 -- the unit of two bytes
 abbrev pub pair_unit : ℕ → ℕ → ℕ

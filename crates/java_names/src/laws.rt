@@ -7,8 +7,12 @@ ghost use Rattle.java_names.specs.Units.{units_of, is_modified_utf8};
 
 /// A text in modified UTF-8 has the units that spell it, and no others.
 pub fn units_spell_their_text()
-    ensures found { (units : List ℕ) → AllByRecursion (λ unit. unit < 2 ^ 16) units → units_of (modified_utf8 units) ≡ Some units }
-    ensures spelled { (bytes units : List ℕ) → units_of bytes ≡ Some units → bytes ≡ modified_utf8 units }
+    ensures found { (units : List ℕ)
+        → AllByRecursion (λ unit. unit < 2 ^ 16) units
+        → units_of (modified_utf8 units) ≡ Some units }
+    ensures spelled { (bytes units : List ℕ)
+        → units_of bytes ≡ Some units
+        → bytes ≡ modified_utf8 units }
     // The test of a text is the relation.
     ensures test { (bytes : List ℕ) → is_modified_utf8 bytes ≡ true ↔ IsModifiedUtf8 bytes }
 {}

@@ -43,7 +43,8 @@ pub fn units_of(alloc: Global, bytes: &[u8]) -> Result<Option<Vec<u16>>, Memory>
 
 /// The first unit and what follows it. None where the bytes begin with none.
 fn first_unit(bytes: &[u8]) -> Option<(u16, &[u8])>
-    ensures { MatchOption result (HasNoUnit bytes.now) (λ found. IsFirstUnit bytes.now found.0 found.1.now) }
+    ensures { MatchOption result (HasNoUnit bytes.now)
+        (λ found. IsFirstUnit bytes.now found.0 found.1.now) }
 {
     match bytes {
         [a, behind @ ..] if is_single(*a) => Some((*a as u16, behind)),

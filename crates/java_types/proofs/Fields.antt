@@ -1,5 +1,6 @@
 -- Types in descriptors by their dimensions, and rows of them.
-use Rattle.std.proofs.Common.{◌≡◌, refl, ap, sym, ◌∙◌, ℕ, zero, suc, ◌+◌, ◌≤◌, true, false, ◌&&◌, List, [], ◌∷◌, ◌++◌, length, replicate, append_assoc, arith}
+use Rattle.std.proofs.Common.{◌≡◌, refl, ap, sym, ◌∙◌, ℕ, zero, suc, ◌+◌, ◌≤◌, true, false, ◌&&◌}
+use Rattle.std.proofs.Common.{List, [], ◌∷◌, ◌++◌, length, replicate, append_assoc, arith}
 use Rattle.std.specs.Prelude.{nat_le}
 use Rattle.std.specs.List.{flat_map, list_all}
 use Rattle.std.proofs.lemmas.Bool.{and_parts, and_from, false≢true, leb-true, le-leb}
@@ -10,7 +11,8 @@ use Rattle.java_types.specs.declared.types.JArg.{JArg}
 use Rattle.java_types.specs.declared.types.JArg.TheOpen.{JType-F, JPart-F}
 use Rattle.java_names.specs.Names.{is_class_name}
 use Rattle.java_types.specs.Types.{type_text}
-use Rattle.java_types.specs.Descriptor.{class_named, plain_part, element_layer, is_element, field_layer, is_field_type}
+use Rattle.java_types.specs.Descriptor.{class_named, plain_part, element_layer, is_element}
+use Rattle.java_types.specs.Descriptor.{field_layer, is_field_type}
 use Rattle.java_types.specs.Fronts.{begins_with}
 use Rattle.java_types.specs.Trees.{many, arrayed, java_type, ends_class}
 use Rattle.java_types.proofs.Layers.{text_array}
@@ -101,7 +103,8 @@ abbrev texts : List JType → List ℕ
 texts = flat_map type_text
 
 -- the type of a field begins with no other byte
-pub no_field : (c : ℕ) (t : JType) (more : List ℕ) → is_type_byte c ≡ false → is_field_type t ≡ true
+pub no_field : (c : ℕ) (t : JType) (more : List ℕ) → is_type_byte c ≡ false → is_field_type t
+    ≡ true
     → (later : List ℕ) → type_text t ++ more ≡ c ∷ later → ⊥
 no_field c t more none right later e =
     let takes = takes_fields (length (type_text t)) in

@@ -1,10 +1,14 @@
 -- Names, dimensions and types at the front of a text.
-use Rattle.std.proofs.Common.{◌≡◌, refl, sym, ap, ◌∙◌, ℕ, ◌+◌, ◌==◌, ◌&&◌, ◌||◌, ◌^◌, ◌≤◌, not, Bool, true, false, cond, List, [], ◌∷◌, ◌++◌, length, map, drop, replicate, append_assoc, subst, arith, zero, suc}
+use Rattle.std.proofs.Common.{◌≡◌, refl, sym, ap, ◌∙◌, ℕ, ◌+◌, ◌==◌, ◌&&◌, ◌||◌, ◌^◌, ◌≤◌, not}
+use Rattle.std.proofs.Common.{Bool, true, false, cond, List, [], ◌∷◌, ◌++◌, length, map, drop}
+use Rattle.std.proofs.Common.{replicate, append_assoc, subst, arith, zero, suc}
 use Rattle.std.specs.Prelude.{codes, nat_le, nat_lt}
-use Rattle.std.specs.List.{list_all, flat_map, position_or_len, prefix_len, slice_split, onto_first}
+use Rattle.std.specs.List.{list_all, flat_map, position_or_len, prefix_len, slice_split}
+use Rattle.std.specs.List.{onto_first}
 use Rattle.std.proofs.lemmas.Bool.{false≢true, eqb-true, eq-eqb, and_parts, leb-true}
 use Rattle.std.proofs.Math.Seq.{drop-append_seam}
-use Rattle.java_names.specs.Names.{is_among, is_unqualified, is_class_name, is_identifier, is_binary_name}
+use Rattle.java_names.specs.Names.{is_among, is_unqualified, is_class_name, is_identifier}
+use Rattle.java_names.specs.Names.{is_binary_name}
 use Rattle.java_types.specs.declared.production.Production.{Production}
 use Rattle.java_types.specs.declared.production.Production.TheVariants.{Reference, Element}
 use Rattle.java_types.specs.declared.types.JType.{JType, roll-JType, out-JType, roll-out-JType}
@@ -14,10 +18,14 @@ use Rattle.java_types.specs.declared.types.JArg.{JArg}
 use Rattle.java_types.specs.declared.types.JArg.TheOpen.{JType-F}
 use Rattle.java_types.specs.Types.{type_text, part_text, arg_text, parts_text, args_text}
 use Rattle.java_types.specs.Descriptor.{is_primitive}
-use Rattle.java_types.specs.Signature.{is_type, is_part, is_arg, are_parts, allows_primitive, allows_variable, allows_array}
-use Rattle.java_types.specs.Fronts.{begins_with, begins_among, ends_name, is_plain_name, behind_name, is_before_type}
+use Rattle.java_types.specs.Signature.{is_type, is_part, is_arg, are_parts, allows_primitive}
+use Rattle.java_types.specs.Signature.{allows_variable, allows_array}
+use Rattle.java_types.specs.Fronts.{begins_with, begins_among, ends_name, is_plain_name}
+use Rattle.java_types.specs.Fronts.{behind_name, is_before_type}
 use Rattle.java_types.specs.Trees.{ends_class}
-use Rattle.java_types.proofs.Layers.{text_void, text_prim, text_named, text_var, text_array, text_part, form_void, form_prim, form_named, form_var, form_array, form_part}
+use Rattle.java_types.proofs.Layers.{text_void, text_prim, text_named, text_var, text_array}
+use Rattle.java_types.proofs.Layers.{text_part, form_void, form_prim, form_named, form_var}
+use Rattle.java_types.proofs.Layers.{form_array, form_part}
 
 -- a byte that passes is none that doesn't
 pub unlike : (test : ℕ → Bool) (b c : ℕ) → test b ≡ true → test c ≡ false → b == c ≡ false
@@ -38,7 +46,8 @@ place_behind p (b ∷ front) more all z =
     let k = place_behind p front more h.1 z in
     ap (λ t. cond t (1 + position_or_len p (front ++ more)) 0) h.0 ∙ omega (arith, k)
 
-pub stopped : (p : ℕ → Bool) (b : ℕ) (more : List ℕ) → p b ≡ true → position_or_len p (b ∷ more) ≡ 0
+pub stopped : (p : ℕ → Bool) (b : ℕ) (more : List ℕ) → p b ≡ true → position_or_len p (b ∷ more)
+    ≡ 0
 stopped p b more e = ap (λ t. cond (not t) (1 + position_or_len p more) 0) e
 
 stop_among : (more : List ℕ)
@@ -227,7 +236,14 @@ prim_parts at letter right
 
 pub type_begins : (at : Production) (t : JType) → is_type t at ≡ true → TypeBegins at t
 type_begins at = of_kinds at (TypeBegins at)
-    (λ right. record { byte = 86; tail = []; text = text_void; is = refl; no_array = λ none. refl })
+    (λ right. record {
+      byte = 86;
+      tail = [];
+      text = text_void;
+      is = refl;
+      no_array =
+          λ none. refl;
+    })
     (λ letter right. let primitive = (prim_parts at letter right).1 in
     record {
       byte = letter;

@@ -1,5 +1,7 @@
 -- A text has one descriptor: what it is taken for.
-use Rattle.std.proofs.Common.{◌≡◌, refl, sym, ap, ◌∙◌, subst, ℕ, zero, suc, ◌+◌, ◌≤◌, ◌==◌, ◌&&◌, ◌||◌, true, false, List, [], ◌∷◌, ◌++◌, length, drop, replicate, append_assoc, append-nil, Some, arith}
+use Rattle.std.proofs.Common.{◌≡◌, refl, sym, ap, ◌∙◌, subst, ℕ, zero, suc, ◌+◌, ◌≤◌, ◌==◌, ◌&&◌}
+use Rattle.std.proofs.Common.{◌||◌, true, false, List, [], ◌∷◌, ◌++◌, length, drop, replicate}
+use Rattle.std.proofs.Common.{append_assoc, append-nil, Some, arith}
 use Rattle.std.specs.Prelude.{codes, nat_le}
 use Rattle.std.specs.List.{list_all}
 use Rattle.std.proofs.lemmas.Bool.{false≢true, and_parts, leb-true}
@@ -16,9 +18,13 @@ use Rattle.java_types.specs.declared.types.JParam.{JParam}
 use Rattle.java_types.specs.declared.types.JSig.{JSig}
 use Rattle.java_types.specs.declared.types.JSig.TheVariants.{OfClass, OfMethod, OfField}
 use Rattle.java_types.specs.Types.{type_text, part_text, signature_text}
-use Rattle.java_types.specs.Descriptor.{is_primitive, has_no_params, has_no_throws, has_no_args, class_named, plain_part, is_plain_class, is_element, element_layer, is_field_type, field_layer, is_return_type, return_layer, is_descriptor, DescriptorSpells}
+use Rattle.java_types.specs.Descriptor.{is_primitive, has_no_params, has_no_throws, has_no_args}
+use Rattle.java_types.specs.Descriptor.{class_named, plain_part, is_plain_class, is_element}
+use Rattle.java_types.specs.Descriptor.{element_layer, is_field_type, field_layer, is_return_type}
+use Rattle.java_types.specs.Descriptor.{return_layer, is_descriptor, DescriptorSpells}
 use Rattle.java_types.specs.Fronts.{begins_with}
-use Rattle.java_types.specs.Trees.{under, marked, enclosed, argument, part, parts, tree_at, java_type, ends_class, descriptor_place, descriptor_of}
+use Rattle.java_types.specs.Trees.{under, marked, enclosed, argument, part, parts, tree_at}
+use Rattle.java_types.specs.Trees.{java_type, ends_class, descriptor_place, descriptor_of}
 use Rattle.java_types.proofs.Layers.{text_void, text_prim, text_named, text_array, text_part}
 use Rattle.java_types.proofs.Fronts.{unlike, class_name_place, is_type_byte}
 use Rattle.java_types.proofs.Rows.{not_chosen, name_taken}
@@ -61,7 +67,8 @@ module _ (Fact : JType → Type 0)
 
   module _ (array : (inside : JType) (dims : ℕ) → 1 ≤ dims → dims ≤ 255 → is_element inside ≡ true
       → Fact (type.Array inside dims)) where
-    fields : (layer : JType-F JArg JType JPart) → field_layer layer ≡ true → Fact (roll-JType layer)
+    fields : (layer : JType-F JArg JType JPart) → field_layer layer ≡ true →
+        Fact (roll-JType layer)
     fields (JType-F.Prim letter) right
         = subst Fact (sym (type.rolls-Prim letter)) (prim letter right)
     fields (JType-F.Named parts) right
@@ -71,7 +78,8 @@ module _ (Fact : JType → Type 0)
     fields (JType-F.Array inside dims) right =
         let last = and_parts (nat_le 1 dims && nat_le dims 255) (is_element inside) right in
         let first = and_parts (nat_le 1 dims) (nat_le dims 255) last.0 in
-        subst Fact (sym (type.rolls-Array inside dims)) (array inside dims (leb-true 1 dims first.0)
+        subst Fact (sym (type.rolls-Array inside dims))
+        (array inside dims (leb-true 1 dims first.0)
         (leb-true dims 255 first.1) last.1)
 
     pub of_fields : (t : JType) → is_field_type t ≡ true → Fact t
@@ -155,7 +163,8 @@ class_core v right = record {
   plain = λ more. refl;
   taken = λ n fits more.
       let one = roll-JPart (record { name = v; args = [] }) in
-      ap (λ (t : List ℕ). under type.Named (parts (one_part n) n t)) (append_assoc v (59 ∷ []) more)
+      ap (λ (t : List ℕ). under type.Named (parts (one_part n) n t))
+      (append_assoc v (59 ∷ []) more)
       ∙ ap (λ (front : List ℕ × List ℕ). named n front) (name_taken ends_class v (59 ∷ more)
       (class_name_place v more right))
       ∙ ap (λ (later : List JPart × List ℕ).
@@ -221,7 +230,8 @@ fields_apart t u x y ht hu e =
     ∙ ap (java_type ends_class n) e ∙ field_taken u hu n (omega arith) y in
     (ap (λ (r : JType × List ℕ). r.0) same, ap (λ (r : JType × List ℕ). r.1) same)
 
-pub results_apart : (t u : JType) (x y : List ℕ) → is_return_type t ≡ true → is_return_type u ≡ true
+pub results_apart : (t u : JType) (x y : List ℕ) → is_return_type t ≡ true → is_return_type u
+    ≡ true
     → type_text t ++ x ≡ type_text u ++ y → (t ≡ u) × (x ≡ y)
 results_apart t u x y ht hu e =
     let n = length (type_text t) + length (type_text u) in

@@ -1,24 +1,34 @@
 -- A text has one signature at a place, and one descriptor: what it is taken for.
-use Rattle.std.proofs.Common.{◌≡◌, refl, sym, ap, ◌∙◌, ℕ, ◌+◌, ◌≤◌, ◌==◌, ◌&&◌, not, Bool, true, false, List, [], ◌∷◌, ◌++◌, length, drop, append_assoc, append-nil, length-append, Option, Some, None, if◌then◌else◌, arith}
+use Rattle.std.proofs.Common.{◌≡◌, refl, sym, ap, ◌∙◌, ℕ, ◌+◌, ◌≤◌, ◌==◌, ◌&&◌, not, Bool, true}
+use Rattle.std.proofs.Common.{false, List, [], ◌∷◌, ◌++◌, length, drop, append_assoc, append-nil}
+use Rattle.std.proofs.Common.{length-append, Option, Some, None, if◌then◌else◌, arith}
 use Rattle.std.specs.List.{list_all, flat_map, AllByRecursion}
 use Rattle.std.specs.Cmp.Lexicographic.{same_text, other_text}
 use Rattle.std.proofs.lemmas.Bool.{false≢true, and_parts, and_from}
 use Rattle.std.proofs.lemmas.Option.{same_Some}
 use Rattle.java_names.specs.Names.{is_text, is_identifier}
 use Rattle.java_types.specs.declared.production.Production.{Production}
-use Rattle.java_types.specs.declared.production.Production.TheVariants.{AnyResult, AnyType, Reference, Thrown, ClassType}
+use Rattle.java_types.specs.declared.production.Production.TheVariants.{AnyResult, AnyType}
+use Rattle.java_types.specs.declared.production.Production.TheVariants.{Reference, Thrown}
+use Rattle.java_types.specs.declared.production.Production.TheVariants.{ClassType}
 use Rattle.java_types.specs.declared.production.SigPlace.{SigPlace}
-use Rattle.java_types.specs.declared.production.SigPlace.TheVariants.{ClassPlace, MethodPlace, FieldPlace}
+use Rattle.java_types.specs.declared.production.SigPlace.TheVariants.{ClassPlace, MethodPlace}
+use Rattle.java_types.specs.declared.production.SigPlace.TheVariants.{FieldPlace}
 use Rattle.java_types.specs.declared.types.JType.{JType}
 use Rattle.java_types.specs.declared.types.JParam.{JParam}
 use Rattle.java_types.specs.declared.types.JSig.{JSig}
 use Rattle.java_types.specs.declared.types.JSig.TheVariants.{OfClass, OfMethod, OfField}
 use Rattle.java_types.specs.Types.{type_text, bound_text, param_text, params_text, signature_text}
-use Rattle.java_types.specs.Signature.{is_type, are_types, is_class_bound, is_param, is_signature, SignatureSpells}
+use Rattle.java_types.specs.Signature.{is_type, are_types, is_class_bound, is_param, is_signature}
+use Rattle.java_types.specs.Signature.{SignatureSpells}
 use Rattle.java_types.specs.Fronts.{begins_with, ends_name, is_before_type}
-use Rattle.java_types.specs.Trees.{under, many, marked, enclosed, is_at_end, class_bound, param, tree_at, java_type, checked, signature_of}
-use Rattle.java_types.proofs.Fronts.{unlike, name_place, name_unlike, name_ahead, identifier_is_plain, is_type_byte, type_begins, type_unlike, type_ahead}
-use Rattle.java_types.proofs.Rows.{chosen, not_chosen, Taken, many_taken, behind_mark, name_taken, enclosed_text, enclosed_taken}
+use Rattle.java_types.specs.Trees.{under, many, marked, enclosed, is_at_end, class_bound, param}
+use Rattle.java_types.specs.Trees.{tree_at, java_type, checked, signature_of}
+use Rattle.java_types.proofs.Fronts.{unlike, name_place, name_unlike, name_ahead}
+use Rattle.java_types.proofs.Fronts.{identifier_is_plain, is_type_byte, type_begins, type_unlike}
+use Rattle.java_types.proofs.Fronts.{type_ahead}
+use Rattle.java_types.proofs.Rows.{chosen, not_chosen, Taken, many_taken, behind_mark, name_taken}
+use Rattle.java_types.proofs.Rows.{enclosed_text, enclosed_taken}
 use Rattle.java_types.proofs.Trees.{Any, inside_fits, type_taken}
 
 -- ---- rows of types
@@ -260,7 +270,8 @@ pub method_end : (right : JType → Bool) (right_result right_thrown : JType →
     let ret_of = read (drop 1 formals_of.1) in
     OfMethod params formals_of.0 ret_of.0 (marked 94 read n ret_of.1).0)
     ≡ OfMethod params formals ret throws
-method_end right right_result right_thrown read n takes takes_result takes_thrown formals ret throws
+method_end right right_result right_thrown read n takes takes_result takes_thrown formals ret
+    throws
     all is_result all_thrown fits params =
     let thrown = flat_map (λ thrown. 94 ∷ type_text thrown) throws in
     let sum : length (flat_map type_text formals ++ (41 ∷ (type_text ret ++ thrown)))

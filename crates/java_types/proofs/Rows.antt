@@ -1,5 +1,7 @@
 -- Rows of values are taken for themselves.
-use Rattle.std.proofs.Common.{◌≡◌, refl, sym, ap, ◌∙◌, subst, ℕ, zero, suc, ◌+◌, ◌≤◌, ◌==◌, not, Bool, true, false, List, [], ◌∷◌, ◌++◌, length, take, drop, append_assoc, length-append, if◌then◌else◌, arith}
+use Rattle.std.proofs.Common.{◌≡◌, refl, sym, ap, ◌∙◌, subst, ℕ, zero, suc, ◌+◌, ◌≤◌, ◌==◌, not}
+use Rattle.std.proofs.Common.{Bool, true, false, List, [], ◌∷◌, ◌++◌, length, take, drop}
+use Rattle.std.proofs.Common.{append_assoc, length-append, if◌then◌else◌, arith}
 use Rattle.std.specs.List.{flat_map, position_or_len, AllByRecursion}
 use Rattle.std.proofs.Math.Seq.{take-append_seam, drop-append_seam}
 use Rattle.java_types.specs.Fronts.{begins_with}
@@ -98,7 +100,8 @@ enclosed_text text (x ∷ xs) = 60 ∷ (flat_map text (x ∷ xs) ++ (62 ∷ []))
 
 pub enclosed_taken : {X : Type 0} (item : List ℕ → X × List ℕ) (text : X → List ℕ) (Good : List ℕ
     → Type 0) (xs : List X) (n : ℕ) (more : List ℕ)
-    → length (enclosed_text text xs) ≤ n → AllByRecursion (Taken (begins_with 62) item text Good) xs
+    → length (enclosed_text text xs) ≤ n →
+    AllByRecursion (Taken (begins_with 62) item text Good) xs
     → Good (62 ∷ more) → (xs ≡ [] → begins_with 60 more ≡ false)
     → enclosed item n (enclosed_text text xs ++ more) ≡ (xs, more)
 enclosed_taken {X} item text Good [] n more few all g none

@@ -1,5 +1,7 @@
 -- Each right value is what its text is taken for: a text has one signature and one descriptor.
-use Rattle.std.proofs.Common.{◌≡◌, refl, sym, ap, ◌∙◌, subst, ℕ, zero, suc, ◌+◌, ◌≤◌, ◌==◌, ◌||◌, not, Bool, true, false, List, [], ◌∷◌, ◌++◌, length, map, drop, replicate, append_assoc, length-append, arith}
+use Rattle.std.proofs.Common.{◌≡◌, refl, sym, ap, ◌∙◌, subst, ℕ, zero, suc, ◌+◌, ◌≤◌, ◌==◌, ◌||◌}
+use Rattle.std.proofs.Common.{not, Bool, true, false, List, [], ◌∷◌, ◌++◌, length, map, drop}
+use Rattle.std.proofs.Common.{replicate, append_assoc, length-append, arith}
 use Rattle.std.specs.Prelude.{codes}
 use Rattle.std.specs.List.{list_all, flat_map, AllByRecursion}
 use Rattle.std.proofs.lemmas.Bool.{false≢true, and_parts}
@@ -18,10 +20,17 @@ use Rattle.java_types.specs.Types.{type_text, part_text, arg_text, parts_text, a
 use Rattle.java_types.specs.Descriptor.{is_primitive}
 use Rattle.java_types.specs.Signature.{is_type, is_part, is_arg, are_parts, allows_variable}
 use Rattle.java_types.specs.Fronts.{begins_with, begins_among, ends_name, is_plain_name}
-use Rattle.java_types.specs.Trees.{under, marked, enclosed, name, argument, part, parts, element, arrayed, java_type}
-use Rattle.java_types.proofs.Layers.{text_void, text_prim, text_named, text_var, text_array, text_rolled_part, text_exact, text_extends, text_super, text_any, form_named, form_var, form_rolled_part, form_exact, form_extends, form_super}
-use Rattle.java_types.proofs.Fronts.{unlike, name_place, identifier_is_plain, binary_is_plain, count_brackets, drop_brackets, is_type_byte, type_begins, element_unlike, type_some, array_parts, prim_parts}
-use Rattle.java_types.proofs.Rows.{not_chosen, Taken, many_taken, behind_mark, name_taken, enclosed_text, enclosed_taken}
+use Rattle.java_types.specs.Trees.{under, marked, enclosed, name, argument, part, parts, element}
+use Rattle.java_types.specs.Trees.{arrayed, java_type}
+use Rattle.java_types.proofs.Layers.{text_void, text_prim, text_named, text_var, text_array}
+use Rattle.java_types.proofs.Layers.{text_rolled_part, text_exact, text_extends, text_super}
+use Rattle.java_types.proofs.Layers.{text_any, form_named, form_var, form_rolled_part, form_exact}
+use Rattle.java_types.proofs.Layers.{form_extends, form_super}
+use Rattle.java_types.proofs.Fronts.{unlike, name_place, identifier_is_plain, binary_is_plain}
+use Rattle.java_types.proofs.Fronts.{count_brackets, drop_brackets, is_type_byte, type_begins}
+use Rattle.java_types.proofs.Fronts.{element_unlike, type_some, array_parts, prim_parts}
+use Rattle.java_types.proofs.Rows.{not_chosen, Taken, many_taken, behind_mark, name_taken}
+use Rattle.java_types.proofs.Rows.{enclosed_text, enclosed_taken}
 
 -- whatever follows
 abbrev pub Any : List ℕ → Type 0
@@ -78,7 +87,8 @@ core_taken ends t dims core text is whole c (suc n) fits more =
 pub plain_taken : (ends : ℕ → Bool) (t : JType) (text : List ℕ) → type_text t ≡ text
     → Core ends t text → (n : ℕ) → length (type_text t) ≤ n → (more : List ℕ)
     → java_type ends n (type_text t ++ more) ≡ (t, more)
-plain_taken ends t text whole c n fits more = core_taken ends t zero t text refl whole c n fits more
+plain_taken ends t text whole c n fits more =
+    core_taken ends t zero t text refl whole c n fits more
 
 pub array_taken : (ends : ℕ → Bool) (inside : JType) (dims : ℕ) → 1 ≤ dims
     → 1 ≤ length (type_text inside)
@@ -134,7 +144,8 @@ one_part n = part ends_name (java_type ends_name n) n
 
 abbrev IsTakenPart : JPart → Type 0
 IsTakenPart p = (is_name : List ℕ → Bool)
-    → ((name : List ℕ) → is_name name ≡ true → is_plain_name name ≡ true) → is_part p is_name ≡ true
+    → ((name : List ℕ) → is_name name ≡ true → is_plain_name name ≡ true) → is_part p is_name
+    ≡ true
     → (n : ℕ) → length (part_text p) ≤ n → (more : List ℕ) → Dotted more
     → one_part n (part_text p ++ more) ≡ (p, more)
 
@@ -223,7 +234,8 @@ arg_step : (y : JArg-F TakenArg TakenType TakenPart)
     → IsTakenArg (roll-JArg
     (map-JArg TakenArg TakenType TakenPart JArg JType JPart (λ e. e.0) (λ e. e.0) (λ e. e.0) y))
 arg_step (JArg-F.Exact t) = subst IsTakenArg (sym (arg.rolls-Exact t.0)) (exact_taken t.0 t.1)
-arg_step (JArg-F.Extends t) = subst IsTakenArg (sym (arg.rolls-Extends t.0)) (extends_taken t.0 t.1)
+arg_step (JArg-F.Extends t) = subst IsTakenArg (sym (arg.rolls-Extends t.0))
+    (extends_taken t.0 t.1)
 arg_step (JArg-F.Super t) = subst IsTakenArg (sym (arg.rolls-Super t.0)) (super_taken t.0 t.1)
 arg_step JArg-F.Any = subst IsTakenArg (sym arg.rolls-Any) any_taken
 
@@ -231,7 +243,8 @@ arg_step JArg-F.Any = subst IsTakenArg (sym arg.rolls-Any) any_taken
 
 args_as : (args : List JArg) → args_text (map arg_text args) ≡ enclosed_text arg_text args
 args_as [] = refl
-args_as (a ∷ args) = ap (λ (row : List ℕ). 60 ∷ (row ++ (62 ∷ []))) (concat-map arg_text (a ∷ args))
+args_as (a ∷ args) = ap (λ (row : List ℕ). 60 ∷ (row ++ (62 ∷ [])))
+    (concat-map arg_text (a ∷ args))
 
 pub inside_fits : {X : Type 0} (text : X → List ℕ) (xs : List X)
     → length (flat_map text xs) ≤ length (enclosed_text text xs)
@@ -261,7 +274,8 @@ args_end : (args : List JArg) (more : List ℕ) → Dotted more
     → begins_among (codes ".;[<>:") (enclosed_text arg_text args ++ more) ≡ true
 args_end [] [] e = absurd (false≢true e)
 args_end [] (b ∷ more) e
-    = two_of (46 == b) (59 == b) ((91 == b) || ((60 == b) || ((62 == b) || ((58 == b) || false)))) e
+    = two_of (46 == b) (59 == b) ((91 == b) || ((60 == b) || ((62 == b) || ((58 == b) || false))))
+    e
 args_end (a ∷ args) more e = refl
 
 dotted_unlike : (more : List ℕ) → Dotted more → begins_with 60 more ≡ false
@@ -391,7 +405,8 @@ var_core v form = record {
       ap (λ (t : List ℕ).
       (type.Var (name ends_name t).0, drop 1 (name ends_name t).1))
       (append_assoc v (59 ∷ []) more)
-      ∙ ap (λ (front : List ℕ × List ℕ). (type.Var front.0, drop 1 front.1)) (name_taken ends_name v
+      ∙ ap (λ (front : List ℕ × List ℕ). (type.Var front.0, drop 1 front.1))
+      (name_taken ends_name v
       (59 ∷ more) (name_place v (59 ∷ more) (identifier_is_plain v form) refl));
 }
 

@@ -1,4 +1,5 @@
--- The bytes that descriptors and signatures are put together with, by name (JVMS 4.3.2, 4.3.3, 4.7.9.1).
+-- The bytes that descriptors and signatures are put
+-- together with, by name (JVMS 4.3.2, 4.3.3, 4.7.9.1).
 use Rattle.std.specs.Prelude.{ℕ, List, [], ◌∷◌, codes}
 
 -- the byte of a text that has one
@@ -34,7 +35,8 @@ opening = sole (codes "(")
 abbrev pub closing : ℕ
 closing = sole (codes ")")
 
--- between the names of packages and classes, between the parts of a class, and behind a class or a type variable
+-- between the names of packages and classes, between the
+-- parts of a class, and behind a class or a type variable
 abbrev pub slash : ℕ
 slash = sole (codes "/")
 

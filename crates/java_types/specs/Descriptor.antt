@@ -77,7 +77,9 @@ is_return_type type = return_layer (out-JType type)
 
 abbrev pub is_descriptor : JSig → Bool
 is_descriptor (OfField type) = is_field_type type
-is_descriptor (OfMethod params formals ret throws) = has_no_params params && list_all is_field_type formals && is_return_type ret && has_no_throws throws
+is_descriptor (OfMethod params formals ret throws) =
+    has_no_params params && list_all is_field_type formals && is_return_type ret
+    && has_no_throws throws
 is_descriptor (OfClass params super interfaces) = false
 
 abbrev pub IsDescriptor : JSig → Type 0

@@ -13,7 +13,8 @@ abbrev pub begins_among : List ℕ → List ℕ → Bool
 begins_among these [] = false
 begins_among these (b ∷ bytes) = is_among these b
 
--- the bytes that no name of a class in a signature has, / between its identifiers apart (JVMS 4.7.9.1)
+-- the bytes that no name of a class in a signature
+-- has, / between its identifiers apart (JVMS 4.7.9.1)
 abbrev pub ends_name : ℕ → Bool
 ends_name b = is_among (codes ".;[<>:") b
 
@@ -29,4 +30,5 @@ behind_name bytes = drop (position_or_len ends_name bytes) bytes
 abbrev pub is_before_type : List ℕ → Bool
 is_before_type bytes =
     begins_with bracket bytes
-    || ((begins_with class_letter bytes || begins_with variable_letter bytes) && not (begins_with colon (behind_name bytes)))
+    || ((begins_with class_letter bytes || begins_with variable_letter bytes)
+    && not (begins_with colon (behind_name bytes)))

@@ -1,11 +1,16 @@
 -- Which values are signatures of classes, methods and fields (JVMS 4.7.9.1).
--- Signatures have neither the limit of dimensions nor that of slots: the numbers of dimensions are those of 32 bits.
-use Rattle.std.specs.Prelude.{◌≡◌, ◌&&◌, ◌^◌, Bool, true, false, ℕ, nat_le, nat_lt, List, [], ◌∷◌, Option, Some, None}
+-- Signatures have neither the limit of dimensions nor that
+-- of slots: the numbers of dimensions are those of 32 bits.
+use Rattle.std.specs.Prelude.{◌≡◌, ◌&&◌, ◌^◌, Bool, true, false, ℕ, nat_le, nat_lt, List, [], ◌∷◌}
+use Rattle.std.specs.Prelude.{Option, Some, None}
 use Rattle.std.specs.List.{list_all}
 use Rattle.java_types.specs.declared.production.Production.{Production}
-use Rattle.java_types.specs.declared.production.Production.TheVariants.{AnyResult, AnyType, Reference, Thrown, ClassType, Element}
+use Rattle.java_types.specs.declared.production.Production.TheVariants.{AnyResult, AnyType}
+use Rattle.java_types.specs.declared.production.Production.TheVariants.{Reference, Thrown}
+use Rattle.java_types.specs.declared.production.Production.TheVariants.{ClassType, Element}
 use Rattle.java_types.specs.declared.production.SigPlace.{SigPlace}
-use Rattle.java_types.specs.declared.production.SigPlace.TheVariants.{ClassPlace, MethodPlace, FieldPlace}
+use Rattle.java_types.specs.declared.production.SigPlace.TheVariants.{ClassPlace, MethodPlace}
+use Rattle.java_types.specs.declared.production.SigPlace.TheVariants.{FieldPlace}
 use Rattle.java_types.specs.declared.types.JType.{JType, fold-JType}
 use Rattle.java_types.specs.declared.types.JPart.{JPart, fold-JPart}
 use Rattle.java_types.specs.declared.types.JArg.{JArg, fold-JArg}
@@ -60,13 +65,15 @@ abbrev pub are_parts : List PartForm → Bool
 are_parts [] = false
 are_parts (first ∷ later) = first is_binary_name && list_all (λ part. part is_identifier) later
 
--- whether a type is what a production asks, from the same of its parts: a class is right at each place
+-- whether a type is what a production asks, from the
+-- same of its parts: a class is right at each place
 abbrev pub type_layer_is : JType-F Bool (Production → Bool) PartForm → Production → Bool
 type_layer_is JType-F.Void at = allows_void at
 type_layer_is (JType-F.Prim letter) at = allows_primitive at && is_primitive letter
 type_layer_is (JType-F.Named parts) at = are_parts parts
 type_layer_is (JType-F.Var name) at = allows_variable at && is_identifier name
-type_layer_is (JType-F.Array element dims) at = allows_array at && nat_le 1 dims && nat_lt dims (2 ^ 32) && element Element
+type_layer_is (JType-F.Array element dims) at =
+    allows_array at && nat_le 1 dims && nat_lt dims (2 ^ 32) && element Element
 
 abbrev pub part_layer_is : JPart-F Bool (Production → Bool) PartForm → PartForm
 part_layer_is part is_name = is_name part.name && list_all (λ arg. arg) part.args
@@ -79,14 +86,17 @@ arg_layer_is JArg-F.Any = true
 
 -- whether the type is one that the production allows
 abbrev pub is_type : JType → Production → Bool
-is_type type = fold-JType Bool (Production → Bool) PartForm arg_layer_is type_layer_is part_layer_is type
+is_type type =
+    fold-JType Bool (Production → Bool) PartForm arg_layer_is type_layer_is part_layer_is type
 
 -- whether the part is a class with right type arguments, its name of this form
 abbrev pub is_part : JPart → PartForm
-is_part part = fold-JPart Bool (Production → Bool) PartForm arg_layer_is type_layer_is part_layer_is part
+is_part part =
+    fold-JPart Bool (Production → Bool) PartForm arg_layer_is type_layer_is part_layer_is part
 
 abbrev pub is_arg : JArg → Bool
-is_arg arg = fold-JArg Bool (Production → Bool) PartForm arg_layer_is type_layer_is part_layer_is arg
+is_arg arg =
+    fold-JArg Bool (Production → Bool) PartForm arg_layer_is type_layer_is part_layer_is arg
 
 abbrev pub are_types : Production → List JType → Bool
 are_types at types = list_all (λ type. is_type type at) types
@@ -96,11 +106,16 @@ is_class_bound None = true
 is_class_bound (Some bound) = is_type bound Reference
 
 abbrev pub is_param : JParam → Bool
-is_param param = is_identifier param.name && is_class_bound param.class_bound && are_types Reference param.interface_bounds
+is_param param =
+    is_identifier param.name && is_class_bound param.class_bound
+    && are_types Reference param.interface_bounds
 
 abbrev pub is_signature : SigPlace → JSig → Bool
-is_signature ClassPlace (OfClass params super interfaces) = list_all is_param params && is_type super ClassType && are_types ClassType interfaces
-is_signature MethodPlace (OfMethod params formals ret throws) = list_all is_param params && are_types AnyType formals && is_type ret AnyResult && are_types Thrown throws
+is_signature ClassPlace (OfClass params super interfaces) =
+    list_all is_param params && is_type super ClassType && are_types ClassType interfaces
+is_signature MethodPlace (OfMethod params formals ret throws) =
+    list_all is_param params && are_types AnyType formals && is_type ret AnyResult
+    && are_types Thrown throws
 is_signature FieldPlace (OfField type) = is_type type Reference
 is_signature ClassPlace (OfMethod params formals ret throws) = false
 is_signature ClassPlace (OfField type) = false

@@ -7,7 +7,8 @@ abbrev pub Begins : (JSig → List ℕ → Type 0) → List ℕ → Type 0
 Begins Spells front = (sig : JSig) × (more : List ℕ) × Spells sig (front ++ more)
 
 -- of the fronts of the text that begin a spelling, the longest has this length
-pub record IsLongestBeginning (Spells : JSig → List ℕ → Type 0) (text : List ℕ) (n : ℕ) : Type 0 where
+pub record IsLongestBeginning (Spells : JSig → List ℕ → Type 0) (text : List ℕ)
+    (n : ℕ) : Type 0 where
   pub fits : n ≤ length text
   pub begins : Begins Spells (take n text)
   pub longest : (m : ℕ) → m ≤ length text → Begins Spells (take m text) → m ≤ n

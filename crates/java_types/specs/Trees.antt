@@ -1,10 +1,13 @@
 -- The descriptor or signature of a text, as a function of the text (JVMS 4.3.2, 4.3.3, 4.7.9.1).
--- The text is taken for one, from front to back; what it was taken for has to be one with this text.
-use Rattle.std.specs.Prelude.{ℕ, zero, suc, ◌==◌, ◌&&◌, not, Bool, true, false, List, [], ◌∷◌, length, take, drop, Option, Some, None, if◌then◌else◌}
+-- The text is taken for one, from front to back; what
+-- it was taken for has to be one with this text.
+use Rattle.std.specs.Prelude.{ℕ, zero, suc, ◌==◌, ◌&&◌, not, Bool, true, false, List, [], ◌∷◌}
+use Rattle.std.specs.Prelude.{length, take, drop, Option, Some, None, if◌then◌else◌}
 use Rattle.std.specs.List.{position_or_len, prefix_len}
 use Rattle.java_names.specs.Names.{is_text}
 use Rattle.java_types.specs.declared.production.SigPlace.{SigPlace}
-use Rattle.java_types.specs.declared.production.SigPlace.TheVariants.{ClassPlace, MethodPlace, FieldPlace}
+use Rattle.java_types.specs.declared.production.SigPlace.TheVariants.{ClassPlace, MethodPlace}
+use Rattle.java_types.specs.declared.production.SigPlace.TheVariants.{FieldPlace}
 use Rattle.java_types.specs.declared.types.JType.{JType}
 use Rattle.java_types.specs.declared.types.JType.TheVariants as type
 use Rattle.java_types.specs.declared.types.JPart.{JPart, roll-JPart}
@@ -14,7 +17,9 @@ use Rattle.java_types.specs.declared.types.JParam.{JParam}
 use Rattle.java_types.specs.declared.types.JSig.{JSig}
 use Rattle.java_types.specs.declared.types.JSig.TheVariants.{OfClass, OfMethod, OfField}
 use Rattle.java_types.specs.Types.{signature_text}
-use Rattle.java_types.specs.Bytes.{class_letter, variable_letter, void_letter, bracket, less, greater, opening, closing, dot, semicolon, colon, caret, plus, minus, star}
+use Rattle.java_types.specs.Bytes.{class_letter, variable_letter, void_letter, bracket, less}
+use Rattle.java_types.specs.Bytes.{greater, opening, closing, dot, semicolon, colon, caret, plus}
+use Rattle.java_types.specs.Bytes.{minus, star}
 use Rattle.java_types.specs.Descriptor.{is_descriptor}
 use Rattle.java_types.specs.Signature.{is_signature}
 use Rattle.java_types.specs.Fronts.{begins_with, ends_name, is_before_type}
@@ -44,7 +49,8 @@ marked mark item n text =
 -- values between < and >, where there are some
 abbrev pub enclosed : {A : Type 0} → Taking A → ℕ → Taking (List A)
 enclosed item n text = if begins_with less text
-    then (let inside = many (begins_with greater) item n (drop 1 text) in (inside.0, drop 1 inside.1))
+    then (let inside = many (begins_with greater) item n (drop 1 text) in
+    (inside.0, drop 1 inside.1))
     else ([], text)
 
 abbrev pub is_at_end : List ℕ → Bool
@@ -82,7 +88,8 @@ abbrev pub element : (ℕ → Bool) → Taking JType → ℕ → Taking JType
 element ends inner n [] = (type.Void, [])
 element ends inner n (b ∷ rest) = if b == class_letter
     then under type.Named (parts (part ends inner n) n rest)
-    else (if b == variable_letter then (let named = name ends rest in (type.Var named.0, drop 1 named.1))
+    else (if b == variable_letter
+    then (let named = name ends rest in (type.Var named.0, drop 1 named.1))
     else (if b == void_letter then (type.Void, rest) else (type.Prim b, rest)))
 
 abbrev pub arrayed : ℕ → JType → JType

@@ -6,8 +6,8 @@ ghost use Rattle.java_types.specs.Descriptor.{DescriptorSpells};
 ghost use Rattle.java_types.specs.Signature.{SignatureSpells};
 ghost use Rattle.java_types.specs.Trees.{descriptor_of, signature_of};
 
-/// A text has one signature at a place, however deep its type arguments are nested, and a signature
-/// has one text.
+/// A text has one signature at a place, however deep its type arguments are nested, and a
+/// signature has one text.
 pub fn one_signature()
     ensures tree { (place : SigPlace) (text : List ℕ) (one other : JSig)
         → SignatureSpells place one text

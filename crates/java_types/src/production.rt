@@ -1,7 +1,8 @@
 //! What the grammar of signatures asks of a type, and where a signature stands.
 ghost use Rattle.std.specs.Prelude.{◌≡◌};
 ghost use Rattle.java_types.specs.Descriptor.{is_primitive as is_primitive_letter};
-ghost use Rattle.java_types.specs.Signature.{allows_void, allows_primitive, allows_variable, allows_array};
+ghost use Rattle.java_types.specs.Signature.{allows_void, allows_primitive, allows_variable};
+ghost use Rattle.java_types.specs.Signature.{allows_array};
 
 /// The productions of JVMS 4.7.9.1 that a type may have to follow.
 #[derive(Clone, Copy, Debug, PartialEq, Eq)]

@@ -23,7 +23,8 @@ pub enum JType {
     },
 }
 
-/// A class with its type arguments: the first part of a type has the binary name of its class, each later one a simple name.
+/// A class with its type arguments: the first part of a type has
+/// the binary name of its class, each later one a simple name.
 #[cycle(java_type)]
 #[derive(Drop)]
 pub struct JPart {

@@ -6,5 +6,6 @@ use Rattle.java_names.proofs.names.is_class_name.Goals as goal
 pub returns : goal.returns
 returns c =
     all_from_yields_List _ _ _ _ c.all.ensures.ran
-    (YieldsList-from_slice_split _ _ c.args.name.now c.split.ensures.rest c.split.ensures.done c.split.ensures.closure (λ x r q k. search (rules, tests)))
+    (YieldsList-from_slice_split _ _ c.args.name.now c.split.ensures.rest c.split.ensures.done
+    c.split.ensures.closure (λ x r q k. search (rules, tests)))
     (λ x b q k. search (rules, tests))
