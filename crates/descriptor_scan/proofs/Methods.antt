@@ -1,5 +1,8 @@
 -- The parameters of a method, type by type, and the whole descriptor.
-use Rattle.std.proofs.Common.{◌≡◌, refl, sym, ap, ◌∙◌, subst, ℕ, zero, suc, ◌+◌, ◌*◌, ◌<◌, ◌≤◌, ◌&&◌, Bool, true, false, List, [], ◌∷◌, ◌++◌, length, get_or, append_assoc, append-nil, length-append, Option, Some, None, arith, inl, inr, ◌⊎◌}
+use Rattle.std.proofs.Common.{◌≡◌, refl, sym, ap, ◌∙◌, subst, ℕ, zero, suc, ◌+◌, ◌*◌, ◌<◌, ◌≤◌}
+use Rattle.std.proofs.Common.{◌&&◌, Bool, true, false, List, [], ◌∷◌, ◌++◌, length, get_or}
+use Rattle.std.proofs.Common.{append_assoc, append-nil, length-append, Option, Some, None, arith}
+use Rattle.std.proofs.Common.{inl, inr, ◌⊎◌}
 use Rattle.std.specs.Prelude.{codes, if◌then◌else◌}
 use Rattle.std.specs.List.{list_all, flat_map}
 use Rattle.std.proofs.lemmas.Bool.{false≢true, and_parts, and_from}
@@ -16,13 +19,16 @@ use Rattle.java_types.specs.declared.types.JParam.{JParam}
 use Rattle.java_types.specs.declared.types.JSig.{JSig}
 use Rattle.java_types.specs.declared.types.JSig.TheVariants.{OfClass, OfMethod, OfField}
 use Rattle.java_types.specs.Types.{type_text}
-use Rattle.java_types.specs.Descriptor.{has_no_params, has_no_throws, is_field_type, field_layer, is_return_type, return_layer, DescriptorSpells}
+use Rattle.java_types.specs.Descriptor.{has_no_params, has_no_throws, is_field_type, field_layer}
+use Rattle.java_types.specs.Descriptor.{is_return_type, return_layer, DescriptorSpells}
 use Rattle.java_types.specs.Trees.{descriptor_of}
 use Rattle.java_types.proofs.Layers.{text_void, text_prim, text_array}
 use Rattle.java_types.proofs.Fields.{formals_refused, formals_apart}
-use Rattle.java_types.proofs.OneDescriptor.{text_class, of_fields, takes_fields, descriptor_found, descriptor_spelled}
+use Rattle.java_types.proofs.OneDescriptor.{text_class, of_fields, takes_fields, descriptor_found}
+use Rattle.java_types.proofs.OneDescriptor.{descriptor_spelled}
 use Rattle.descriptor_scan.specs.Forms.{type_slots, layer_slots, slots, slots_of, parameter_slots}
-use Rattle.descriptor_scan.specs.Passing.{IsPassed, HasNone, ArePassed, HasNoParameters, first_slots}
+use Rattle.descriptor_scan.specs.Passing.{IsPassed, HasNone, ArePassed, HasNoParameters}
+use Rattle.descriptor_scan.specs.Passing.{first_slots}
 
 abbrev texts : List JType → List ℕ
 texts = flat_map type_text
@@ -131,7 +137,8 @@ all_passed text rest behind count s front = record {
 }
 
 pub none_passed : (text rest : List ℕ) (count : ℕ) → SoFar text rest count
-    → ((later : List ℕ) → rest ≡ 41 ∷ later → ⊥) → HasNone is_field_type rest → HasNoParameters text
+    → ((later : List ℕ) → rest ≡ 41 ∷ later → ⊥) → HasNone is_field_type rest →
+    HasNoParameters text
 none_passed text rest count s other none others more right whole =
     formals_refused s.done others more rest s.form right other (λ t tail form e. none t tail form
     (sym e)) (sym whole ∙ s.whole)
@@ -222,7 +229,8 @@ method_spelled text formals_text ret_text count front p r = (
         (list_all is_field_type p.passed) (is_return_type r.0) p.form r.1) refl;
     whole = front
         ∙ ap (λ (x : List ℕ). 40 ∷ x) (p.whole
-        ∙ ap (λ (x : List ℕ). texts p.passed ++ (41 ∷ x)) (r.2 ∙ sym (append-nil (type_text r.0))));
+        ∙ ap (λ (x : List ℕ). texts p.passed ++ (41 ∷ x))
+        (r.2 ∙ sym (append-nil (type_text r.0))));
   },
   p.counted,
 )

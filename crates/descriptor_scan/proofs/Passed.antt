@@ -1,5 +1,8 @@
 -- What is passed over at the front of a text is told by its first bytes.
-use Rattle.std.proofs.Common.{◌≡◌, refl, sym, ap, ◌∙◌, subst, ℕ, zero, suc, ◌+◌, ◌-◌, ◌<◌, ◌≤◌, ◌==◌, Bool, true, false, not, cond, List, [], ◌∷◌, ◌++◌, length, get_or, take, drop, replicate, append_assoc, append-nil, Option, Some, None, MatchOption, arith}
+use Rattle.std.proofs.Common.{◌≡◌, refl, sym, ap, ◌∙◌, subst, ℕ, zero, suc, ◌+◌, ◌-◌, ◌<◌, ◌≤◌}
+use Rattle.std.proofs.Common.{◌==◌, Bool, true, false, not, cond, List, [], ◌∷◌, ◌++◌, length}
+use Rattle.std.proofs.Common.{get_or, take, drop, replicate, append_assoc, append-nil, Option}
+use Rattle.std.proofs.Common.{Some, None, MatchOption, arith}
 use Rattle.std.specs.List.{position_or_len, prefix_len}
 use Rattle.std.proofs.lemmas.Bool.{false≢true, eqb-true}
 use Rattle.std.proofs.lemmas.List.{take-append-drop, take_all}
@@ -10,13 +13,15 @@ use Rattle.java_types.specs.declared.types.JType.TheVariants as type
 use Rattle.java_types.specs.declared.types.JSig.{JSig}
 use Rattle.java_types.specs.declared.types.JSig.TheVariants.{OfClass, OfMethod, OfField}
 use Rattle.java_types.specs.Types.{type_text}
-use Rattle.java_types.specs.Descriptor.{is_primitive, class_named, element_layer, is_element, is_field_type, DescriptorSpells}
+use Rattle.java_types.specs.Descriptor.{is_primitive, class_named, element_layer, is_element}
+use Rattle.java_types.specs.Descriptor.{is_field_type, DescriptorSpells}
 use Rattle.java_types.specs.Fronts.{begins_with}
 use Rattle.java_types.specs.Trees.{arrayed, ends_class, descriptor_of}
 use Rattle.java_types.proofs.Layers.{text_prim}
 use Rattle.java_types.proofs.Fronts.{class_name_place, count_brackets, drop_brackets}
 use Rattle.java_types.proofs.Fields.{arrayed_text, arrayed_form, FieldView, field_view, class_form}
-use Rattle.java_types.proofs.OneDescriptor.{text_class, element_plain, of_elements, fields_apart, descriptor_found, descriptor_spelled}
+use Rattle.java_types.proofs.OneDescriptor.{text_class, element_plain, of_elements, fields_apart}
+use Rattle.java_types.proofs.OneDescriptor.{descriptor_found, descriptor_spelled}
 use Rattle.descriptor_scan.specs.Forms.{is_of_field, is_field_descriptor}
 use Rattle.descriptor_scan.specs.Passing.{IsPassed, HasNone, IsNamePassed, HasNoName}
 
@@ -115,7 +120,8 @@ pub class_passed : (text inner rest : List ℕ) → text ≡ 76 ∷ inner → Is
 class_passed text inner rest front p = record {
   passed = class_named p.passed;
   form = class_form p.passed p.form;
-  whole = front ∙ ap (λ (t : List ℕ). 76 ∷ t) (p.whole ∙ sym (append_assoc p.passed (59 ∷ []) rest))
+  whole = front ∙ ap (λ (t : List ℕ). 76 ∷ t)
+      (p.whole ∙ sym (append_assoc p.passed (59 ∷ []) rest))
       ∙ ap (λ (t : List ℕ). t ++ rest) (sym (text_class p.passed));
 }
 
@@ -141,7 +147,8 @@ begins_so text no_letter no_class t more form =
     ∙ ap (λ (s : List ℕ). 76 ∷ s) (append_assoc name (59 ∷ []) more)))
     t form
 
-pub no_class : (text inner : List ℕ) → text ≡ 76 ∷ inner → HasNoName inner → HasNone is_element text
+pub no_class : (text inner : List ℕ) → text ≡ 76 ∷ inner → HasNoName inner →
+    HasNone is_element text
 no_class text inner front none = begins_so text
     (λ letter more right e. let f : 76 ∷ inner ≡ letter ∷ more = sym front
     ∙ e in let same : letter ≡ 76 = cc in false≢true (sym (ap is_primitive same) ∙ right))
@@ -192,7 +199,8 @@ name_passed text name behind rest k b at front back cut right =
 
 -- the name at the front is the one that is cut off
 named : (text name behind : List ℕ) (k : ℕ) → k ≡ position_or_len ends_class text
-    → name ≡ take k text → behind ≡ drop k text → (other more : List ℕ) → is_class_name other ≡ true
+    → name ≡ take k text → behind ≡ drop k text → (other more : List ℕ) → is_class_name other
+    ≡ true
     → text ≡ other ++ (59 ∷ more) → (name ≡ other) × (behind ≡ 59 ∷ more)
 named text name behind k at front back other more right whole =
     let size : k ≡ length other = at ∙ ap (position_or_len ends_class) whole

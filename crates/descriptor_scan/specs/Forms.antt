@@ -1,5 +1,6 @@
 -- What a text is as a descriptor, as functions of the text (JVMS 4.3.2, 4.3.3).
-use Rattle.std.specs.Prelude.{ℕ, ◌+◌, Bool, true, false, List, [], ◌∷◌, codes, Option, Some, None, if◌then◌else◌}
+use Rattle.std.specs.Prelude.{ℕ, ◌+◌, Bool, true, false, List, [], ◌∷◌, codes, Option, Some, None}
+use Rattle.std.specs.Prelude.{if◌then◌else◌}
 use Rattle.java_names.specs.Names.{is_among}
 use Rattle.java_types.specs.declared.types.JType.{JType, out-JType}
 use Rattle.java_types.specs.declared.types.JPart.{JPart}

@@ -27,7 +27,8 @@ pub record IsNamePassed (text rest : List ℕ) : Type 0 where
   pub whole : text ≡ passed ++ (semicolon ∷ rest)
 
 abbrev pub HasNoName : List ℕ → Type 0
-HasNoName text = (name more : List ℕ) → is_class_name name ≡ true → text ≡ name ++ (semicolon ∷ more) → ⊥
+HasNoName text =
+    (name more : List ℕ) → is_class_name name ≡ true → text ≡ name ++ (semicolon ∷ more) → ⊥
 
 -- the parameters of a method stand at the front, and the rest is behind their )
 pub record ArePassed (text rest : List ℕ) (count : ℕ) : Type 0 where

@@ -14,4 +14,5 @@ IsSig sig (Err e) = e ≡ Memory
 
 -- each signature that the text spells, nested no deeper than the limit
 pub record IsBuilt (place : SigPlace) (text : List ℕ) (result : Result JSig SigErr) : Type 0 where
-  pub is : (sig : JSig) → SignatureSpells place sig text → nesting sig ≤ nesting_limit → IsSig sig result
+  pub is : (sig : JSig) → SignatureSpells place sig text → nesting sig ≤ nesting_limit
+      → IsSig sig result

@@ -1,26 +1,32 @@
 -- Parts of descriptors, and what reading one from the front of a text tells.
--- Of an alternative it tells no more than is known from the bytes that were looked at: those in front of what is left, and the first of these.
-use Rattle.std.specs.Prelude.{◌≡◌, ℕ, ◌≤◌, Bool, true, false, ◌==◌, Option, Some, None, if◌then◌else◌, List, [], ◌∷◌, ◌++◌, replicate, codes, Result, Ok, Err}
+-- Of an alternative it tells no more than is known from the bytes that
+-- were looked at: those in front of what is left, and the first of these.
+use Rattle.std.specs.Prelude.{◌≡◌, ℕ, ◌≤◌, Bool, true, false, ◌==◌, Option, Some, None}
+use Rattle.std.specs.Prelude.{if◌then◌else◌, List, [], ◌∷◌, ◌++◌, replicate, codes, Result, Ok}
+use Rattle.std.specs.Prelude.{Err}
 use Rattle.std.specs.List.{flat_map, list_all}
 use Rattle.java_types.specs.declared.types.JType.{JType}
-use Rattle.java_types.specs.declared.types.JType.TheVariants as type
-use Rattle.java_types.specs.declared.types.JPart.{roll-JPart}
 use Rattle.java_types.specs.declared.types.JSig.{JSig}
 use Rattle.java_names.specs.Names.{is_among, is_class_name}
 use Rattle.java_types.specs.Types.{type_text}
 use Rattle.java_types.specs.Bytes.{bracket, slash}
-use Rattle.java_types.specs.Descriptor.{is_element, is_field_type, is_return_type, DescriptorSpells}
+use Rattle.java_types.specs.Descriptor.{is_element, is_field_type, is_return_type}
+use Rattle.java_types.specs.Descriptor.{DescriptorSpells}
 use Rattle.descriptor_sig.specs.declared.stop.Stop.{Stop}
 use Rattle.descriptor_sig.specs.declared.stop.Stop.TheVariants.{Stuck, Memory}
 
 -- a value of the form, and its text
-pub record Spelling {A : Type 0} (is_right : A → Bool) (text_of : A → List ℕ) (item : A) (text : List ℕ) : Type 0 where
+pub record Spelling {A : Type 0} (is_right : A → Bool) (text_of : A → List ℕ) (item : A)
+    (text : List ℕ) : Type 0 where
   pub form : is_right item ≡ true
   pub whole : text ≡ text_of item
 
--- whether a part of a class's name has begun behind a byte, from the same in front of it; none where the byte can't stand (JVMS 4.2.1)
+-- whether a part of a class's name has begun behind a byte, from the
+-- same in front of it; none where the byte can't stand (JVMS 4.2.1)
 abbrev pub part_behind : Bool → ℕ → Option Bool
-part_behind begun b = if b == slash then (if begun then Some false else None) else (if is_among (codes ".;[/") b then None else Some true)
+part_behind begun b =
+    if b == slash then (if begun then Some false else None)
+    else (if is_among (codes ".;[/") b then None else Some true)
 
 -- the name of a class, and a ; behind it
 abbrev pub NameSpells : List ℕ → List ℕ → Type 0
@@ -37,7 +43,8 @@ ReturnSpells = Spelling is_return_type type_text
 
 -- the types of parameters, and a ) behind them
 abbrev pub FormalsSpell : List JType → List ℕ → Type 0
-FormalsSpell = Spelling (list_all is_field_type) (λ formals. flat_map type_text formals ++ codes ")")
+FormalsSpell =
+    Spelling (list_all is_field_type) (λ formals. flat_map type_text formals ++ codes ")")
 
 -- the descriptor of a method, from what is behind its (
 abbrev pub MethodSpells : JSig → List ℕ → Type 0
@@ -49,7 +56,8 @@ as_left [] later = []
 as_left (b ∷ left) later = b ∷ later
 
 -- the item stands at the front of the text
-pub record IsRead {A : Type 0} (Spells : A → List ℕ → Type 0) (text left : List ℕ) (item : A) : Type 0 where
+pub record IsRead {A : Type 0} (Spells : A → List ℕ → Type 0) (text left : List ℕ)
+    (item : A) : Type 0 where
   pub front : List ℕ
   pub whole : text ≡ front ++ left
   pub spells : Spells item front
@@ -59,7 +67,8 @@ pub record IsStuck {A : Type 0} (Spells : A → List ℕ → Type 0) (text left 
   pub front : List ℕ
   pub whole : text ≡ front ++ left
   pub begun : (item : A) × (more : List ℕ) × Spells item (front ++ more)
-  pub refused : (item : A) (spelled more later : List ℕ) → Spells item spelled → spelled ++ more ≡ front ++ as_left left later → ⊥
+  pub refused : (item : A) (spelled more later : List ℕ) → Spells item spelled
+      → spelled ++ more ≡ front ++ as_left left later → ⊥
 
 -- what reading a part tells, from the text before it and what was left
 abbrev pub Parsed : {A : Type 0} → (A → List ℕ → Type 0) → Result A Stop → List ℕ → List ℕ → Type 0
@@ -77,7 +86,8 @@ pub record IsStuckWhole (text left : List ℕ) : Type 0 where
   pub front : List ℕ
   pub whole : text ≡ front ++ left
   pub begun : (sig : JSig) × (more : List ℕ) × DescriptorSpells sig (front ++ more)
-  pub refused : (sig : JSig) (later : List ℕ) → DescriptorSpells sig (front ++ as_left left later) → ⊥
+  pub refused : (sig : JSig) (later : List ℕ) → DescriptorSpells sig (front ++ as_left left later)
+      → ⊥
 
 abbrev pub ParsedWhole : Result JSig Stop → List ℕ → List ℕ → Type 0
 ParsedWhole (Ok sig) text left = IsOnly text sig

@@ -1,5 +1,5 @@
 -- What is told of a text that has no tree.
-use Rattle.std.specs.Prelude.{ℕ, List, Result, Ok, Err}
+use Rattle.std.specs.Prelude.{ℕ, Result, Ok, Err}
 use Rattle.java_types.specs.declared.types.JSig.{JSig}
 use Rattle.descriptor_sig.specs.declared.error.SigErr.{SigErr}
 use Rattle.descriptor_sig.specs.declared.error.SigErr.TheVariants.{BadText, TooDeep, Memory}

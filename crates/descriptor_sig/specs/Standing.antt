@@ -1,21 +1,26 @@
--- What is read where a part of a signature is known to stand (JVMS 4.7.9.1): a value's text is in front, and more behind it.
+-- What is read where a part of a signature is known to stand
+-- (JVMS 4.7.9.1): a value's text is in front, and more behind it.
 -- Type arguments are nested no deeper than the limit.
-use Rattle.std.specs.Prelude.{◌≡◌, ℕ, ◌≤◌, ◌<◌, ◌^◌, ◌==◌, ◌&&◌, ◌||◌, not, Bool, true, false, List, [], ◌∷◌, ◌++◌, map, drop, replicate, codes, Option, Some, None, Result, Ok, Err}
-use Rattle.std.specs.List.{list_all, position_or_len}
+use Rattle.std.specs.Prelude.{◌≡◌, ℕ, ◌≤◌, ◌<◌, ◌^◌, ◌==◌, Bool, true, false, List, [], ◌∷◌, ◌++◌}
+use Rattle.std.specs.Prelude.{map, replicate, codes, Option, Some, None, Result, Ok, Err}
+use Rattle.std.specs.List.{list_all}
 use Rattle.java_types.specs.declared.types.JType.{JType}
 use Rattle.java_types.specs.declared.types.JPart.{JPart}
 use Rattle.java_types.specs.declared.types.JArg.{JArg}
 use Rattle.java_types.specs.declared.types.JParam.{JParam}
 use Rattle.java_types.specs.declared.types.JSig.{JSig}
-use Rattle.java_names.specs.Names.{is_among}
-use Rattle.java_types.specs.Types.{type_text, part_text, arg_text, parts_text, args_text, bound_text, param_text, params_text}
+use Rattle.java_types.specs.Types.{type_text, part_text, arg_text, parts_text, args_text}
+use Rattle.java_types.specs.Types.{bound_text, param_text, params_text}
 use Rattle.java_types.specs.Bytes.{bracket, less, opening, closing, semicolon, colon}
 use Rattle.java_types.specs.declared.production.Production.{Production}
 use Rattle.java_types.specs.declared.production.Production.TheVariants.{AnyType}
 use Rattle.java_types.specs.declared.production.SigPlace.{SigPlace}
-use Rattle.java_types.specs.Signature.{is_type, is_part, is_arg, are_parts, is_param, is_class_bound, SignatureSpells}
+use Rattle.java_types.specs.Signature.{is_type, is_part, is_arg, are_parts, is_param}
+use Rattle.java_types.specs.Signature.{is_class_bound, SignatureSpells}
 use Rattle.java_types.specs.Fronts.{begins_with, begins_among, is_plain_name, is_before_type}
-use Rattle.java_types.specs.Nesting.{greatest, nesting_limit, nesting, type_levels, part_levels, arg_levels, parts_levels, args_levels, bound_levels, param_levels, params_levels}
+use Rattle.java_types.specs.Nesting.{greatest, nesting_limit, nesting, type_levels, part_levels}
+use Rattle.java_types.specs.Nesting.{arg_levels, parts_levels, args_levels, bound_levels}
+use Rattle.java_types.specs.Nesting.{param_levels, params_levels}
 use Rattle.descriptor_sig.specs.declared.error.SigErr.{SigErr}
 use Rattle.descriptor_sig.specs.declared.error.SigErr.TheVariants.{Memory}
 
@@ -27,7 +32,8 @@ Gives value more (Ok read) left = (read ≡ value) × (left ≡ more)
 Gives value more (Err e) left = e ≡ Memory
 
 -- each value that stands at the front is read
-pub record Builds {T : Type 0} (Stands : T → List ℕ → List ℕ → Type 0) (bytes : List ℕ) (result : Result T SigErr) (left : List ℕ) : Type 0 where
+pub record Builds {T : Type 0} (Stands : T → List ℕ → List ℕ → Type 0) (bytes : List ℕ)
+    (result : Result T SigErr) (left : List ℕ) : Type 0 where
   pub gives : (value : T) (more : List ℕ) → Stands value bytes more → Gives value more result left
 
 -- ---- bytes
@@ -65,7 +71,8 @@ pub record DimensionsStand (dims : ℕ) (bytes more : List ℕ) : Type 0 where
   pub stops : begins_with bracket more ≡ false
   pub whole : bytes ≡ replicate dims bracket ++ more
 
-pub record TypeStands (at : Production) (depth : ℕ) (type : JType) (bytes more : List ℕ) : Type 0 where
+pub record TypeStands (at : Production) (depth : ℕ) (type : JType)
+    (bytes more : List ℕ) : Type 0 where
   pub form : is_type type at ≡ true
   pub shallow : Shallow (type_levels type depth)
   pub whole : bytes ≡ type_text type ++ more
@@ -98,14 +105,17 @@ pub record ArgStands (depth : ℕ) (arg : JArg) (bytes more : List ℕ) : Type 0
 
 abbrev pub Row : {T : Type 0} → (T → List ℕ → List ℕ → Type 0) → List T → List ℕ → List ℕ → Type 0
 Row Stands [] bytes more = bytes ≡ more
-Row Stands (item ∷ items) bytes more = (middle : List ℕ) × Stands item bytes middle × Row Stands items middle more
+Row Stands (item ∷ items) bytes more =
+    (middle : List ℕ) × Stands item bytes middle × Row Stands items middle more
 
 -- the same, with this byte at the end
-abbrev pub RowTo : {T : Type 0} → ℕ → (T → List ℕ → List ℕ → Type 0) → List T → List ℕ → List ℕ → Type 0
+abbrev pub RowTo : {T : Type 0} → ℕ → (T → List ℕ → List ℕ → Type 0) → List T → List ℕ → List ℕ
+    → Type 0
 RowTo stop Stands items bytes more = Row Stands items bytes (stop ∷ more)
 
 -- the same, each behind a byte of its own
-pub record Marked {T : Type 0} (mark : ℕ) (Stands : T → List ℕ → List ℕ → Type 0) (item : T) (bytes more : List ℕ) : Type 0 where
+pub record Marked {T : Type 0} (mark : ℕ) (Stands : T → List ℕ → List ℕ → Type 0) (item : T)
+    (bytes more : List ℕ) : Type 0 where
   pub behind : List ℕ
   pub front : bytes ≡ mark ∷ behind
   pub stands : Stands item behind more

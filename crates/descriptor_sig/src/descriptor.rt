@@ -18,7 +18,8 @@ use std::alloc::Global;
 pub fn read_descriptor(alloc: Global, text: &Text) -> Result<JSig, SigErr>
     requires { length text.now < 2 ^ 32 }
     ensures spelled { IfOk result (λ sig. DescriptorSpells sig text.now) }
-    ensures only { IfOk result (λ sig. (other : JSig) → DescriptorSpells other text.now → other ≡ sig) }
+    ensures only { IfOk result
+        (λ sig. (other : JSig) → DescriptorSpells other text.now → other ≡ sig) }
     ensures by_text { IfOk result (λ sig. descriptor_of text.now ≡ Some sig) }
     ensures bad { IfBadText result (λ at. IsBadText DescriptorSpells text.now at) }
     ensures not_deep { IfTooDeep result (λ at. ⊥) }

@@ -1,6 +1,8 @@
 ghost use Rattle.std.specs.Prelude.{◌≡◌, length, IfOk};
 ghost use Rattle.java_types.specs.Descriptor.{DescriptorSpells, class_named};
-ghost use Rattle.descriptor_sig.specs.Parts.{Parsed, ParsedWhole, DimensionsRead, NameSpells, ElementSpells, FieldSpells, ReturnSpells, FormalsSpell, MethodSpells, part_behind};
+ghost use Rattle.descriptor_sig.specs.Parts.{Parsed, ParsedWhole, DimensionsRead, NameSpells};
+ghost use Rattle.descriptor_sig.specs.Parts.{ElementSpells, FieldSpells, ReturnSpells};
+ghost use Rattle.descriptor_sig.specs.Parts.{FormalsSpell, MethodSpells, part_behind};
 
 use crate::stop::Stop;
 use hdr_core::{List, Memory, Text};
@@ -156,7 +158,8 @@ impl<'a> DescriptorReader<'a> {
     }
 }
 
-/// Whether a part of a class's name has begun behind the byte, from the same in front of it. None where the byte can't stand.
+/// Whether a part of a class's name has begun behind the byte,
+/// from the same in front of it. None where the byte can't stand.
 fn part_after(in_part: bool, b: u8) -> Option<bool>
     ensures { result ≡ part_behind in_part b }
 {

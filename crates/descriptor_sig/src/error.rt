@@ -8,7 +8,8 @@ use std::alloc::{AllocError, AllocFailed};
 pub enum SigErr {
     /// The text is no spelling. `at` is the length of the longest prefix that begins one.
     BadText { at: u32 },
-    /// The text is a signature whose type arguments are nested more than 64 deep. `at` is the place where the 65th opens.
+    /// The text is a signature whose type arguments are nested
+    /// more than 64 deep. `at` is the place where the 65th opens.
     TooDeep { at: u32 },
     Memory,
 }

@@ -1,13 +1,17 @@
 ghost use Rattle.std.specs.Prelude.{◌≡◌, ◌<◌, ◌≤◌, ◌^◌, ℕ, length, IfOk, OnOk, Ok, Err, Some};
 ghost use Rattle.java_types.specs.declared.types.JSig.{JSig};
 ghost use Rattle.java_types.specs.declared.production.Production.TheVariants.{AnyResult};
-ghost use Rattle.java_types.specs.declared.production.SigPlace.TheVariants.{ClassPlace, MethodPlace, FieldPlace};
+ghost use Rattle.java_types.specs.declared.production.SigPlace.TheVariants.{ClassPlace};
+ghost use Rattle.java_types.specs.declared.production.SigPlace.TheVariants.{MethodPlace};
+ghost use Rattle.java_types.specs.declared.production.SigPlace.TheVariants.{FieldPlace};
 ghost use Rattle.java_types.specs.Signature.{SignatureSpells};
 ghost use Rattle.signature_scan.specs.Scanned.{IsFine, IsTooDeep};
 ghost use Rattle.java_types.specs.Spelling.{IsBadText};
 ghost use Rattle.java_types.specs.Trees.{signature_of};
 ghost use Rattle.descriptor_sig.specs.Built.{IsBuilt};
-ghost use Rattle.descriptor_sig.specs.Standing.{Builds, TypeStands, TypesStand, MarkedStand, BoundStands, ParamStands, ParamsStand, FormalsStand, SigStands};
+ghost use Rattle.descriptor_sig.specs.Standing.{Builds, TypeStands, TypesStand, MarkedStand};
+ghost use Rattle.descriptor_sig.specs.Standing.{BoundStands, ParamStands, ParamsStand};
+ghost use Rattle.descriptor_sig.specs.Standing.{FormalsStand, SigStands};
 
 use crate::error::SigErr;
 use crate::signature_reader::{SignatureReader, UNMET};
@@ -136,7 +140,8 @@ impl<'a> SignatureReader<'a> {
     }
 }
 
-/// Builds the signature that the text is known to spell, with type arguments nested at most 64 deep.
+/// Builds the signature that the text is known to
+/// spell, with type arguments nested at most 64 deep.
 fn build(alloc: Global, text: &[u8], place: SigPlace) -> Result<JSig, SigErr>
     ensures { IsBuilt place text.now result }
 {
@@ -148,9 +153,11 @@ fn build(alloc: Global, text: &[u8], place: SigPlace) -> Result<JSig, SigErr>
     }
 }
 
-/// Reads the signature of a class, a method or a field (JVMS 4.7.9.1), with type arguments nested at most 64 deep.
+/// Reads the signature of a class, a method or a field (JVMS
+/// 4.7.9.1), with type arguments nested at most 64 deep.
 ///
-/// `BadText` comes just where the text spells no signature at this place, `TooDeep` just where it spells one that is nested deeper.
+/// `BadText` comes just where the text spells no signature at this
+/// place, `TooDeep` just where it spells one that is nested deeper.
 pub fn read_signature(alloc: Global, text: &Text, place: SigPlace) -> Result<JSig, SigErr>
     requires { length text.now < 2 ^ 32 }
     ensures spelled { IfOk result (λ sig. IsFine place text.now sig) }
@@ -158,7 +165,9 @@ pub fn read_signature(alloc: Global, text: &Text, place: SigPlace) -> Result<JSi
     ensures only { IfOk result
         (λ sig. (other : JSig) → SignatureSpells place other text.now → other ≡ sig) }
     ensures by_text { IfOk result (λ sig. signature_of place text.now ≡ Some sig) }
-    ensures bad { (at : ℕ) → result ≡ Err (SigErr.BadText at) → IsBadText (SignatureSpells place) text.now at }
+    ensures bad { (at : ℕ)
+        → result ≡ Err (SigErr.BadText at)
+        → IsBadText (SignatureSpells place) text.now at }
     ensures deep { (at : ℕ)
         → result ≡ Err (SigErr.TooDeep at)
         → (sig : JSig) × IsTooDeep place text.now at sig }

@@ -1,8 +1,12 @@
 ghost use Rattle.std.specs.Prelude.{◌≡◌, ◌<◌, ◌≤◌, ◌==◌, length, Ok, OnOk};
 ghost use Rattle.std.specs.List.{position_or_len, prefix_len};
 ghost use Rattle.java_types.specs.declared.production.Production.TheVariants.{AnyType, Element};
-ghost use Rattle.java_types.specs.Fronts.{is_before_type as is_before_type_of, ends_name as ends_name_of};
-ghost use Rattle.descriptor_sig.specs.Standing.{Builds, Takes, Passes, NameStands, VariableStands, DimensionsStand, TypeStands, PartStands, PartsStand, ArgsStand, ArgStands, ends_types as ends_types_of};
+ghost use Rattle.java_types.specs.Fronts.{is_before_type as is_before_type_of};
+ghost use Rattle.java_types.specs.Fronts.{ends_name as ends_name_of};
+ghost use Rattle.descriptor_sig.specs.Standing.{Builds, Takes, Passes, NameStands};
+ghost use Rattle.descriptor_sig.specs.Standing.{VariableStands, DimensionsStand, TypeStands};
+ghost use Rattle.descriptor_sig.specs.Standing.{PartStands, PartsStand, ArgsStand, ArgStands};
+ghost use Rattle.descriptor_sig.specs.Standing.{ends_types as ends_types_of};
 
 use crate::error::SigErr;
 use hdr_core::{List, Text};
@@ -123,7 +127,8 @@ impl<'a> SignatureReader<'a> {
         matches!(self.rest.first(), None | Some(b')'))
     }
 
-    /// Whether a type stands behind the `:` of a type parameter: a class or a type variable, unless it is the name of the next type parameter, or an array.
+    /// Whether a type stands behind the `:` of a type parameter: a class or a type
+    /// variable, unless it is the name of the next type parameter, or an array.
     pub fn is_before_type(&self) -> bool
         ensures { result ≡ is_before_type_of self.now }
     {

@@ -6,7 +6,8 @@ use std::alloc::{AllocError, AllocFailed};
 /// Why a reader has no part of a descriptor.
 #[derive(Clone, Copy)]
 pub enum Stop {
-    /// What is left begins with the first byte that fits nowhere, or is nothing where more has to follow.
+    /// What is left begins with the first byte that fits
+    /// nowhere, or is nothing where more has to follow.
     Stuck,
     Memory,
 }

@@ -1,6 +1,7 @@
 ghost use Rattle.std.specs.Prelude.{◌≡◌, ℕ, ◌∷◌, [], ◌++◌, IfOk, OnOk, codes, map, replicate};
 ghost use Rattle.std.specs.List.{concat, flat_map};
-ghost use Rattle.java_types.specs.Types.{type_text, part_text, arg_text, parts_text, args_text, bound_text, param_text, params_text, signature_text};
+ghost use Rattle.java_types.specs.Types.{type_text, part_text, arg_text, parts_text, args_text};
+ghost use Rattle.java_types.specs.Types.{bound_text, param_text, params_text, signature_text};
 ghost use Rattle.java_types.specs.declared.production.SigPlace.{SigPlace};
 ghost use Rattle.java_types.specs.Signature.{IsSignature, SignatureSpells};
 ghost use Rattle.java_types.specs.Descriptor.{IsDescriptor, DescriptorSpells};
@@ -9,11 +10,15 @@ use hdr_core::{Memory, Text};
 use java_types::{JArg, JParam, JPart, JSig, JType};
 use std::alloc::Global;
 
-/// The text of a descriptor or a signature (JVMS 4.3, 4.7.9.1). Every value has one, a right one or not.
+/// The text of a descriptor or a signature (JVMS 4.3,
+/// 4.7.9.1). Every value has one, a right one or not.
 pub fn write_signature(alloc: Global, sig: &JSig) -> Result<Text, Memory>
     ensures text { IfOk result (λ text. text ≡ signature_text sig.now) }
-    ensures signature { (place : SigPlace) → IsSignature place sig.now → IfOk result (λ text. SignatureSpells place sig.now text) }
-    ensures descriptor { IsDescriptor sig.now → IfOk result (λ text. DescriptorSpells sig.now text) }
+    ensures signature { (place : SigPlace)
+        → IsSignature place sig.now
+        → IfOk result (λ text. SignatureSpells place sig.now text) }
+    ensures descriptor { IsDescriptor sig.now
+        → IfOk result (λ text. DescriptorSpells sig.now text) }
 {
     let mut out = Vec::new(alloc);
     write_sig(&mut out, sig)?;
@@ -92,7 +97,8 @@ fn write_types(out: &mut Vec<u8>, types: &[JType]) -> Result<(), Memory>
 
 /// Writes the types of a method's parameters, with their parentheses.
 fn write_formals(out: &mut Vec<u8>, formals: &[JType]) -> Result<(), Memory>
-    ensures { OnOk result (out.new.items ≡ out.old.items ++ (codes "(" ++ (flat_map type_text formals.now ++ codes ")"))) }
+    ensures { OnOk result (out.new.items
+        ≡ out.old.items ++ (codes "(" ++ (flat_map type_text formals.now ++ codes ")"))) }
 {
     put(out, b'(')?;
     write_types(out, formals)?;
@@ -101,7 +107,8 @@ fn write_formals(out: &mut Vec<u8>, formals: &[JType]) -> Result<(), Memory>
 
 /// Writes each type behind a mark of its own.
 fn write_each_after(out: &mut Vec<u8>, mark: u8, types: &[JType]) -> Result<(), Memory>
-    ensures { OnOk result (out.new.items ≡ out.old.items ++ flat_map (λ ty. mark ∷ type_text ty) types.now) }
+    ensures { OnOk result (out.new.items
+        ≡ out.old.items ++ flat_map (λ ty. mark ∷ type_text ty) types.now) }
 {
     for ty in types {
         put(out, mark)?;
@@ -112,7 +119,8 @@ fn write_each_after(out: &mut Vec<u8>, mark: u8, types: &[JType]) -> Result<(), 
 
 /// Writes a type variable, with its `;`.
 fn write_variable(out: &mut Vec<u8>, name: &Text) -> Result<(), Memory>
-    ensures { OnOk result (out.new.items ≡ out.old.items ++ (codes "T" ++ (name.now ++ codes ";"))) }
+    ensures { OnOk result (out.new.items
+        ≡ out.old.items ++ (codes "T" ++ (name.now ++ codes ";"))) }
 {
     put(out, b'T')?;
     out.extend_from_slice(name.bytes())?;

@@ -1,15 +1,20 @@
 -- Languages as expressions, and the expressions for what a byte leaves of them.
-use Rattle.std.proofs.Common.{◌≡◌, ◌↔◌, ◌⊎◌, inl, inr, refl, ap, ℕ, zero, suc, ◌≤◌, Bool, true, false, ◌&&◌, ◌||◌, ◌==◌, eq-eqb, eqb-true, List, [], ◌∷◌, ◌++◌, replicate}
+use Rattle.std.proofs.Common.{◌≡◌, ◌↔◌, ◌⊎◌, inl, inr, refl, ap, ℕ, zero, suc, ◌≤◌, Bool, true}
+use Rattle.std.proofs.Common.{false, ◌&&◌, ◌||◌, ◌==◌, eq-eqb, eqb-true, List, [], ◌∷◌, ◌++◌}
+use Rattle.std.proofs.Common.{replicate}
 use Rattle.std.proofs.lemmas.Bool.{false≢true}
 use Rattle.java_types.specs.declared.types.JType.{JType}
 use Rattle.java_types.specs.Types.{type_text}
 use Rattle.java_types.specs.Descriptor.{is_primitive}
 use Rattle.java_types.specs.declared.production.Production.{Production}
 use Rattle.java_types.specs.declared.production.Production.TheVariants.{Reference, Element}
-use Rattle.java_types.specs.Signature.{is_type, allows_void, allows_primitive, allows_variable, allows_array}
+use Rattle.java_types.specs.Signature.{is_type, allows_void, allows_primitive, allows_variable}
+use Rattle.java_types.specs.Signature.{allows_array}
 use Rattle.signature_scan.specs.Machine.{is_name_byte}
 use Rattle.signature_scan.proofs.Conjunctions.{and_true, or_true}
-use Rattle.signature_scan.proofs.Languages.{same, and_then, turned, either, pair, swap, Cat, cats, Empty, cat_empty, cat_cons, cat_first, cat_last, cat_assoc, cat_or, Star, star_none, star_cons}
+use Rattle.signature_scan.proofs.Languages.{same, and_then, turned, either, pair, swap, Cat, cats}
+use Rattle.signature_scan.proofs.Languages.{Empty, cat_empty, cat_cons, cat_first, cat_last}
+use Rattle.signature_scan.proofs.Languages.{cat_assoc, cat_or, Star, star_none, star_cons}
 
 pub data Expr : Type 0 where
   -- this byte
@@ -143,8 +148,10 @@ derive_all (row ∷ rows) b = derive row b ++ derive_all rows b
 
 -- ---- rows
 
-pub any_append : (xs ys : List (List Expr)) (w : List ℕ) → AnyRow (xs ++ ys) w ↔ (AnyRow xs w ⊎ AnyRow ys w)
-any_append [] ys w = (λ y. inr y, λ s. elim s as (λ s. AnyRow ys w) [ inl x ↦ absurd x | inr y ↦ y ])
+pub any_append : (xs ys : List (List Expr)) (w : List ℕ) → AnyRow (xs ++ ys) w
+    ↔ (AnyRow xs w ⊎ AnyRow ys w)
+any_append [] ys w =
+    (λ y. inr y, λ s. elim s as (λ s. AnyRow ys w) [ inl x ↦ absurd x | inr y ↦ y ])
 any_append (x ∷ xs) ys w = and_then (either same (any_append xs ys w)) regroup
   where
     to : Rows x w ⊎ (AnyRow xs w ⊎ AnyRow ys w) → (Rows x w ⊎ AnyRow xs w) ⊎ AnyRow ys w
@@ -160,7 +167,8 @@ any_append (x ∷ xs) ys w = and_then (either same (any_append xs ys w)) regroup
     regroup : (Rows x w ⊎ (AnyRow xs w ⊎ AnyRow ys w)) ↔ ((Rows x w ⊎ AnyRow xs w) ⊎ AnyRow ys w)
     regroup = (to, back)
 
-pub only_is : (test : Bool) (rows : List (List Expr)) (w : List ℕ) → AnyRow (only test rows) w ↔ ((test ≡ true) × AnyRow rows w)
+pub only_is : (test : Bool) (rows : List (List Expr)) (w : List ℕ) → AnyRow (only test rows) w
+    ↔ ((test ≡ true) × AnyRow rows w)
 only_is true rows w = (λ r. (refl, r), λ p. p.1)
 only_is false rows w = (λ r. absurd r, λ p. absurd (false≢true p.0))
 
@@ -170,14 +178,19 @@ one_row es w = (λ s. elim s as (λ s. Rows es w) [ inl x ↦ x | inr y ↦ absu
 
 pub row_append : (xs ys : List Expr) (w : List ℕ) → Rows (xs ++ ys) w ↔ Cat (Rows xs) (Rows ys) w
 row_append [] ys w = turned (cat_first (Rows ys) w)
-row_append (x ∷ xs) ys w = and_then (cats (λ v. same) (λ v. row_append xs ys v) w) (turned (cat_assoc (Words x) (Rows xs) (Rows ys) w))
+row_append (x ∷ xs) ys w =
+    and_then (cats (λ v. same) (λ v. row_append xs ys v) w)
+    (turned (cat_assoc (Words x) (Rows xs) (Rows ys) w))
 
 no_cat : (K : List ℕ → Type 0) (w : List ℕ) → ⊥ ↔ Cat (λ v. ⊥) K w
 no_cat K w = (λ x. absurd x, λ c. c.first)
 
-pub each_is : (rows : List (List Expr)) (es : List Expr) (w : List ℕ) → AnyRow (each rows es) w ↔ Cat (AnyRow rows) (Rows es) w
+pub each_is : (rows : List (List Expr)) (es : List Expr) (w : List ℕ) → AnyRow (each rows es) w
+    ↔ Cat (AnyRow rows) (Rows es) w
 each_is [] es w = no_cat (Rows es) w
-each_is (row ∷ rows) es w = and_then (either (row_append row es w) (each_is rows es w)) (turned (cat_or (Rows row) (AnyRow rows) (Rows es) w))
+each_is (row ∷ rows) es w =
+    and_then (either (row_append row es w) (each_is rows es w))
+    (turned (cat_or (Rows row) (AnyRow rows) (Rows es) w))
 
 -- a row of one expression
 pub row_one : (e : Expr) (w : List ℕ) → Rows (e ∷ []) w ↔ Words e w
@@ -192,22 +205,32 @@ abbrev pub AfterIs : Expr → Type 0
 AfterIs e = (b : ℕ) (w : List ℕ) → Words e (b ∷ w) ↔ AnyRow (after e b) w
 
 -- an item in front of others
-pub front_is : (e : Expr) (K : List ℕ → Type 0) (rest : List (List Expr)) (b : ℕ) (w : List ℕ) (es : List Expr) → EndIs e → AfterIs e → ((v : List ℕ) → K v ↔ Rows es v) → K (b ∷ w) ↔ AnyRow rest w
+pub front_is : (e : Expr) (K : List ℕ → Type 0) (rest : List (List Expr)) (b : ℕ) (w : List ℕ)
+    (es : List Expr) → EndIs e → AfterIs e → ((v : List ℕ) → K v ↔ Rows es v) → K (b ∷ w)
+    ↔ AnyRow rest w
     → Cat (Words e) K (b ∷ w) ↔ AnyRow (each (after e b) es ++ only (can_end e) rest) w
 front_is e K rest b w es ends goes behind more =
     and_then (cat_cons (Words e) K b w)
     (and_then swap
-    (and_then (either (and_then (cats (λ v. goes b v) behind w) (turned (each_is (after e b) es w))) (and_then (pair ends more) (turned (only_is (can_end e) rest w))))
+    (and_then (either (and_then (cats (λ v. goes b v) behind w)
+    (turned (each_is (after e b) es w)))
+    (and_then (pair ends more) (turned (only_is (can_end e) rest w))))
     (turned (any_append (each (after e b) es) (only (can_end e) rest) w))))
 
-pub derive_is : ((e : Expr) → EndIs e) → ((e : Expr) → AfterIs e) → (es : List Expr) (b : ℕ) (w : List ℕ) → Rows es (b ∷ w) ↔ AnyRow (derive es b) w
+pub derive_is : ((e : Expr) → EndIs e) → ((e : Expr) → AfterIs e)
+    → (es : List Expr) (b : ℕ) (w : List ℕ) → Rows es (b ∷ w) ↔ AnyRow (derive es b) w
 derive_is ends goes [] b w = (λ e. absurd (cc), λ x. absurd x)
-derive_is ends goes (e ∷ es) b w = front_is e (Rows es) (derive es b) b w es (ends e) (goes e) (λ v. same) (derive_is ends goes es b w)
+derive_is ends goes (e ∷ es) b w =
+    front_is e (Rows es) (derive es b) b w es (ends e) (goes e) (λ v. same)
+    (derive_is ends goes es b w)
 
-pub derive_all_is : ((e : Expr) → EndIs e) → ((e : Expr) → AfterIs e) → (rows : List (List Expr)) (b : ℕ) (w : List ℕ) → AnyRow rows (b ∷ w) ↔ AnyRow (derive_all rows b) w
+pub derive_all_is : ((e : Expr) → EndIs e) → ((e : Expr) → AfterIs e)
+    → (rows : List (List Expr)) (b : ℕ) (w : List ℕ) → AnyRow rows (b ∷ w)
+    ↔ AnyRow (derive_all rows b) w
 derive_all_is ends goes [] b w = same
 derive_all_is ends goes (row ∷ rows) b w =
-    and_then (either (derive_is ends goes row b w) (derive_all_is ends goes rows b w)) (turned (any_append (derive row b) (derive_all rows b) w))
+    and_then (either (derive_is ends goes row b w) (derive_all_is ends goes rows b w))
+    (turned (any_append (derive row b) (derive_all rows b) w))
 
 pub byte_after : (n : ℕ) → AfterIs (Byte n)
 byte_after n b w = and_then (to, back) (turned (only_is (b == n) ([] ∷ []) w))
@@ -222,24 +245,33 @@ pub name_byte_after : AfterIs NameByte
 name_byte_after b w = and_then (to, back) (turned (only_is (is_name_byte b) ([] ∷ []) w))
   where
     to : IsNameByte (b ∷ w) → (is_name_byte b ≡ true) × AnyRow ([] ∷ []) w
-    to x = let e = x.text in let head : x.byte ≡ b = cc in let tail : w ≡ [] = cc in (rw head at x.is, inl tail)
+    to x = let e = x.text in let head : x.byte ≡ b = cc in let tail : w ≡ [] = cc in
+        (rw head at x.is, inl tail)
 
     back : (is_name_byte b ≡ true) × AnyRow ([] ∷ []) w → IsNameByte (b ∷ w)
     back p = record { byte = b; is = p.0; text = ap (λ v. b ∷ v) ((one_row [] w).0 p.1) }
 
 pub maybe_after : (e : Expr) → AfterIs e → AfterIs (Maybe e)
-maybe_after e goes b w = and_then (λ s. elim s as (λ s. Words e (b ∷ w)) [ inl x ↦ absurd (cc) | inr y ↦ y ], λ y. inr y) (goes b w)
+maybe_after e goes b w =
+    and_then (
+      λ s. elim s as (λ s. Words e (b ∷ w)) [ inl x ↦ absurd (cc) | inr y ↦ y ],
+      λ y. inr y,
+    )
+    (goes b w)
 
 pub or_after : (e f : Expr) → AfterIs e → AfterIs f → AfterIs (Or e f)
-or_after e f goes more b w = and_then (either (goes b w) (more b w)) (turned (any_append (after e b) (after f b) w))
+or_after e f goes more b w =
+    and_then (either (goes b w) (more b w)) (turned (any_append (after e b) (after f b) w))
 
 pub both_after : (e f : Expr) → EndIs e → AfterIs e → AfterIs f → AfterIs (Both e f)
-both_after e f ends goes more b w = front_is e (Words f) (after f b) b w (f ∷ []) ends goes (λ v. turned (row_one f v)) (more b w)
+both_after e f ends goes more b w =
+    front_is e (Words f) (after f b) b w (f ∷ []) ends goes (λ v. turned (row_one f v)) (more b w)
 
 pub many_after : (e : Expr) → AfterIs e → AfterIs (Many e)
 many_after e goes b w =
     and_then (star_cons (Words e) b w)
-    (and_then (cats (λ v. goes b v) (λ v. turned (row_one (Many e) v)) w) (turned (each_is (after e b) (Many e ∷ []) w)))
+    (and_then (cats (λ v. goes b v) (λ v. turned (row_one (Many e) v)) w)
+    (turned (each_is (after e b) (Many e ∷ []) w)))
 
 pub many_end : (e : Expr) → EndIs (Many e)
 many_end e = (λ s. refl, λ t. star_none (Words e))
@@ -251,7 +283,9 @@ pub or_end : (e f : Expr) → EndIs e → EndIs f → EndIs (Or e f)
 or_end e f p q = and_then (either p q) (or_true (can_end e) (can_end f))
 
 pub both_end : (e f : Expr) → EndIs e → EndIs f → EndIs (Both e f)
-both_end e f p q = and_then (cat_empty (Words e) (Words f)) (and_then (pair p q) (and_true (can_end e) (can_end f)))
+both_end e f p q =
+    and_then (cat_empty (Words e) (Words f))
+    (and_then (pair p q) (and_true (can_end e) (can_end f)))
 
 pub byte_end : (n : ℕ) → EndIs (Byte n)
 byte_end n = (λ e. absurd (cc), λ t. absurd (false≢true t))
@@ -276,6 +310,7 @@ parts_is NameByte w = turned (row_one NameByte w)
 parts_is (Many e) w = turned (row_one (Many e) w)
 parts_is (Maybe e) w = turned (row_one (Maybe e) w)
 parts_is (Or e f) w = turned (row_one (Or e f) w)
-parts_is (Both e f) w = and_then (cats (parts_is e) (parts_is f) w) (turned (row_append (parts_of e) (parts_of f) w))
+parts_is (Both e f) w =
+    and_then (cats (parts_is e) (parts_is f) w) (turned (row_append (parts_of e) (parts_of f) w))
 parts_is (Kind at) w = turned (row_one (Kind at) w)
 parts_is (Dims most) w = turned (row_one (Dims most) w)

@@ -1,3 +1,4 @@
+mod Beginnings
 mod Conjunctions
 mod Depths
 mod Expressions

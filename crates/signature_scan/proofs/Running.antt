@@ -20,4 +20,5 @@ go_on (Some s) further at = further s
 -- the verdict on a text of which these bytes are left at this place
 abbrev pub run : State → Option ℕ → ℕ → List ℕ → Verdict
 run s deep at [] = end_verdict (is_whole s) deep at
-run s deep at (b ∷ bytes) = go_on (next s b) (λ next. run next (deeper deep next at) (at + 1) bytes) at
+run s deep at (b ∷ bytes) =
+    go_on (next s b) (λ next. run next (deeper deep next at) (at + 1) bytes) at

@@ -1,9 +1,13 @@
 -- What each state of the machine stands for, and that each step keeps it.
-use Rattle.std.proofs.Common.{◌≡◌, refl, ℕ, zero, suc, ◌<◌, Bool, true, false, List, [], ◌∷◌, ◌++◌, map, Option, Some, None}
+use Rattle.std.proofs.Common.{◌≡◌, refl, ℕ, zero, suc, ◌<◌, Bool, true, false, List, [], ◌∷◌}
+use Rattle.std.proofs.Common.{◌++◌, map, Option, Some, None}
 use Rattle.lemmas.proofs.Tables.{below, same_below}
-use Rattle.java_types.specs.declared.production.Production.TheVariants.{AnyResult, AnyType, Reference, Thrown, ClassType, Element}
+use Rattle.java_types.specs.declared.production.Production.TheVariants.{AnyResult, AnyType}
+use Rattle.java_types.specs.declared.production.Production.TheVariants.{Reference, Thrown}
+use Rattle.java_types.specs.declared.production.Production.TheVariants.{ClassType, Element}
 use Rattle.java_types.specs.declared.production.SigPlace.{SigPlace}
-use Rattle.java_types.specs.declared.production.SigPlace.TheVariants.{ClassPlace, MethodPlace, FieldPlace}
+use Rattle.java_types.specs.declared.production.SigPlace.TheVariants.{ClassPlace, MethodPlace}
+use Rattle.java_types.specs.declared.production.SigPlace.TheVariants.{FieldPlace}
 use Rattle.java_types.specs.declared.production.Production.{Production}
 use Rattle.signature_scan.specs.declared.part.Part.{Part}
 use Rattle.signature_scan.specs.declared.part.Part.TheVariants as part
@@ -12,7 +16,9 @@ use Rattle.signature_scan.specs.declared.state.Around.TheVariants as around
 use Rattle.signature_scan.specs.declared.state.State.{State}
 use Rattle.signature_scan.specs.declared.state.State.TheVariants as state
 use Rattle.signature_scan.specs.Machine.{next}
-use Rattle.signature_scan.proofs.Expressions.{Expr, Byte, NameByte, Many, Maybe, Both, Kind, Dims, names, slashes, argument, arguments, inners, class_row, variable_row, derive_all}
+use Rattle.signature_scan.proofs.Expressions.{Expr, Byte, NameByte, Many, Maybe, Both, Kind, Dims}
+use Rattle.signature_scan.proofs.Expressions.{names, slashes, argument, arguments, inners}
+use Rattle.signature_scan.proofs.Expressions.{class_row, variable_row, derive_all}
 
 abbrev pub bounds : Expr
 bounds = Many (Both (Byte 58) (Kind Reference))
@@ -76,8 +82,10 @@ rows (state.Start place) = start_row place ∷ []
 rows (state.Parameter place) = (parameter ∷ Many parameter ∷ Byte 62 ∷ body_row place) ∷ []
 rows (state.ParameterName place) = name_row place ∷ []
 rows (state.FirstBound place) = colon_row place ∷ []
-rows (state.ClassOrName place started) = (part_row (part.ClassName started) ++ outermost (around.Bounds place)) ∷ name_row place ∷ []
-rows (state.VariableOrName place started) = (part_row (part.VariableName started) ++ outermost (around.Bounds place)) ∷ name_row place ∷ []
+rows (state.ClassOrName place started) =
+    (part_row (part.ClassName started) ++ outermost (around.Bounds place)) ∷ name_row place ∷ []
+rows (state.VariableOrName place started) =
+    (part_row (part.VariableName started) ++ outermost (around.Bounds place)) ∷ name_row place ∷ []
 rows state.Parenthesis = body_row MethodPlace ∷ []
 rows (state.Behind a depth) = beyond a depth ∷ []
 rows (state.Within p a depth) = (part_row p ++ beyond a depth) ∷ []
@@ -91,7 +99,8 @@ rows_if (Some s) = rows s
 abbrev Tabled : State → Type 0
 Tabled s = map (derive_all (rows s)) (below 256) ≡ map (λ b. rows_if (next s b)) (below 256)
 
-type_tabled : (w : Production) (a : Around) (depth : ℕ) → Tabled (state.Within (part.Type w) a depth)
+type_tabled : (w : Production) (a : Around) (depth : ℕ)
+    → Tabled (state.Within (part.Type w) a depth)
 type_tabled AnyResult a depth = refl
 type_tabled AnyType a depth = refl
 type_tabled Reference a depth = refl
@@ -99,19 +108,23 @@ type_tabled Thrown a depth = refl
 type_tabled ClassType a depth = refl
 type_tabled Element a depth = refl
 
-dimensions_tabled : (more : ℕ) (a : Around) (depth : ℕ) → Tabled (state.Within (part.Dimensions more) a depth)
+dimensions_tabled : (more : ℕ) (a : Around) (depth : ℕ)
+    → Tabled (state.Within (part.Dimensions more) a depth)
 dimensions_tabled zero a depth = refl
 dimensions_tabled (suc more) a depth = refl
 
-class_name_tabled : (started : Bool) (a : Around) (depth : ℕ) → Tabled (state.Within (part.ClassName started) a depth)
+class_name_tabled : (started : Bool) (a : Around) (depth : ℕ)
+    → Tabled (state.Within (part.ClassName started) a depth)
 class_name_tabled false a depth = refl
 class_name_tabled true a depth = refl
 
-inner_name_tabled : (started : Bool) (a : Around) (depth : ℕ) → Tabled (state.Within (part.InnerName started) a depth)
+inner_name_tabled : (started : Bool) (a : Around) (depth : ℕ)
+    → Tabled (state.Within (part.InnerName started) a depth)
 inner_name_tabled false a depth = refl
 inner_name_tabled true a depth = refl
 
-variable_name_tabled : (started : Bool) (a : Around) (depth : ℕ) → Tabled (state.Within (part.VariableName started) a depth)
+variable_name_tabled : (started : Bool) (a : Around) (depth : ℕ)
+    → Tabled (state.Within (part.VariableName started) a depth)
 variable_name_tabled false a depth = refl
 variable_name_tabled true a depth = refl
 
@@ -159,11 +172,13 @@ colon_tabled ClassPlace = refl
 colon_tabled MethodPlace = refl
 colon_tabled FieldPlace = refl
 
-class_or_name_tabled : (place : SigPlace) (started : Bool) → Tabled (state.ClassOrName place started)
+class_or_name_tabled : (place : SigPlace) (started : Bool)
+    → Tabled (state.ClassOrName place started)
 class_or_name_tabled place false = refl
 class_or_name_tabled place true = refl
 
-variable_or_name_tabled : (place : SigPlace) (started : Bool) → Tabled (state.VariableOrName place started)
+variable_or_name_tabled : (place : SigPlace) (started : Bool)
+    → Tabled (state.VariableOrName place started)
 variable_or_name_tabled place false = refl
 variable_or_name_tabled place true = refl
 
@@ -183,4 +198,5 @@ state_tabled (state.Within p a depth) = within_tabled p a depth
 
 -- what may follow behind a byte is what may follow in the next state
 pub next_rows : (s : State) (b : ℕ) → b < 256 → derive_all (rows s) b ≡ rows_if (next s b)
-next_rows s b h = same_below (derive_all (rows s)) (λ b. rows_if (next s b)) 256 b (state_tabled s) h
+next_rows s b h =
+    same_below (derive_all (rows s)) (λ b. rows_if (next s b)) 256 b (state_tabled s) h

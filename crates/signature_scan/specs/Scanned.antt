@@ -6,8 +6,7 @@ use Rattle.java_types.specs.Signature.{SignatureSpells}
 use Rattle.java_types.specs.Spelling.{IsBadText}
 use Rattle.java_types.specs.Nesting.{nesting, nesting_limit, opens_at}
 use Rattle.java_types.specs.Trees.{signature_of}
-use Rattle.signature_scan.specs.declared.state.State.TheVariants as state
-use Rattle.signature_scan.specs.Machine.{goes_over}
+use Rattle.signature_scan.specs.Beginning.{beginning}
 use Rattle.signature_scan.specs.declared.verdict.Verdict.{Verdict}
 use Rattle.signature_scan.specs.declared.verdict.Verdict.TheVariants as verdict
 
@@ -30,10 +29,7 @@ Scanned place text (verdict.TooDeep at) = (sig : JSig) × IsTooDeep place text a
 
 -- ---- the verdict as a function of the text
 
--- the length of the longest front that begins a signature, in a text that is none
-abbrev pub beginning : SigPlace → List ℕ → ℕ
-beginning place text = goes_over (state.Start place) text
-
+-- the verdict on a text with this signature or none, of which so much begins one
 abbrev pub verdict_on : Option JSig → ℕ → Verdict
 verdict_on None at = verdict.BadText at
 verdict_on (Some sig) at = if nat_lt nesting_limit (nesting sig)

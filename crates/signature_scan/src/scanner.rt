@@ -6,8 +6,8 @@ use crate::state::State;
 use crate::verdict::Verdict;
 use java_types::{NESTING_LIMIT, SigPlace};
 
-/// Whether the text is a signature at the place, in the grammar of JVMS 4.7.9.1. One pass over its bytes, without
-/// recursion and without memory. A number of dimensions is one of 32 bits.
+/// Whether the text is a signature at the place, in the grammar of JVMS 4.7.9.1. One pass over
+/// its bytes, without recursion and without memory. A number of dimensions is one of 32 bits.
 pub fn scan(text: &[u8], place: SigPlace) -> Verdict
     requires { length text.now < 2 ^ 32 }
     ensures scanned { Scanned place text.now result }

@@ -17,21 +17,25 @@ pub enum Around {
     Nothing,
 }
 
-/// A state. A depth is the number of type arguments that are open, whose types are in those around them.
+/// A state. A depth is the number of type arguments
+/// that are open, whose types are in those around them.
 #[derive(Clone, Copy)]
 pub enum State {
     Start(SigPlace),
     /// A type parameter has to begin.
     Parameter(SigPlace),
     ParameterName(SigPlace),
-    /// Behind the first `:` of a type parameter: a class bound, an interface bound or the next type parameter.
+    /// Behind the first `:` of a type parameter: a class
+    /// bound, an interface bound or the next type parameter.
     FirstBound(SigPlace),
-    /// Behind an `L` there and name bytes if begun: the name of a class or of the next type parameter.
+    /// Behind an `L` there and name bytes if begun: the
+    /// name of a class or of the next type parameter.
     ClassOrName {
         place: SigPlace,
         begun: bool,
     },
-    /// Behind a `T` there and name bytes if begun: a type variable or the name of the next type parameter.
+    /// Behind a `T` there and name bytes if begun: a type
+    /// variable or the name of the next type parameter.
     VariableOrName {
         place: SigPlace,
         begun: bool,

@@ -1,4 +1,6 @@
-//! Examples of names, descriptors and signatures: the tests of java_names, java_types, signature_scan, descriptor_scan and descriptor_sig, in a crate of their own, so that the proofs of those are checked once.
+//! Examples of names, descriptors and signatures: the tests of java_names, java_types,
+//! signature_scan, descriptor_scan and descriptor_sig, in a crate of their own, so that the
+//! proofs of those are checked once.
 #![tactic(auto)]
 
 #[cfg(test)]

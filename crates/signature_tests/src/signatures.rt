@@ -8,8 +8,8 @@ use java_types::JSig;
 use std::alloc::Global;
 use std::process::Abort;
 
-/// Fields: `#` is before a primitive type, `$` before a variable, the number of dimensions before an element,
-/// and a class is in braces, with its arguments in parentheses.
+/// Fields: `#` is before a primitive type, `$` before a variable, the number of dimensions before
+/// an element, and a class is in braces, with its arguments in parentheses.
 const FIELDS: [(&str, &str); 41] = [
     ("LA;", "{A}"),
     ("La/b/C;", "{a/b/C}"),
@@ -66,7 +66,8 @@ const FIELDS: [(&str, &str); 41] = [
     ),
 ];
 
-/// Classes: type parameters with their class bounds, - for none, and their interface bounds, then the supertypes.
+/// Classes: type parameters with their class bounds, - for none, and their interface bounds, then
+/// the supertypes.
 const CLASSES: [(&str, &str); 21] = [
     ("LA;", "extends {A}"),
     (

@@ -1,9 +1,9 @@
 //! Descriptors and signatures told as trees.
 //!
-//! `#` is before a primitive type, `$` before a variable, the number of dimensions before an element, and a class is
-//! in braces, with its arguments in parentheses. Type parameters stand first, with their class bounds, - for none, and
-//! their interface bounds; then the supertypes of a class, or the types of a method's parameters, its result and what
-//! it throws.
+//! `#` is before a primitive type, `$` before a variable, the number of dimensions before an
+//! element, and a class is in braces, with its arguments in parentheses. Type parameters stand
+//! first, with their class bounds, - for none, and their interface bounds; then the supertypes of
+//! a class, or the types of a method's parameters, its result and what it throws.
 use crate::nesting::add;
 use descriptor_sig::{SigErr, write_signature};
 use java_types::{JArg, JParam, JPart, JSig, JType};
@@ -119,7 +119,8 @@ fn tell(rt: &impl Abort, told: &mut Vec<u8>, sig: &JSig) {
     }
 }
 
-/// Checks that a text was read as the tree, that the copy of this is told so, and is written as the text.
+/// Checks that a text was read as the tree, that the copy of this is told so, and is written as
+/// the text.
 pub fn check_tree(
     rt: &impl Abort,
     alloc: Global,

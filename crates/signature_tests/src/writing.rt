@@ -1,4 +1,5 @@
-//! The copy and the text of a signature that is nested deep. Other trees are written where they are read.
+//! The copy and the text of a signature that is nested deep. Other trees are written where they
+//! are read.
 use crate::nesting::repeated;
 use crate::trees::check_text;
 use hdr_core::{List, Text};

@@ -1,7 +1,9 @@
 use Rattle.std.proofs.Common.{◌∙◌, refl, sym, arith, rules, get_or}
-use Rattle.descriptor_scan.proofs.Passed.{first_byte, tail_of, handed, class_passed, letter_passed, no_class, no_letter, no_byte}
+use Rattle.descriptor_scan.proofs.Passed.{first_byte, tail_of, handed, class_passed}
+use Rattle.descriptor_scan.proofs.Passed.{letter_passed, no_class, no_letter, no_byte}
 use Rattle.descriptor_scan.proofs.field.behind_element.Goals as goal
-use Rattle.descriptor_scan.proofs.field.behind_element.Goals.{in_default-via-then-text-lt1, in_default-via-in-len1-up+else-is_primitive}
+use Rattle.descriptor_scan.proofs.field.behind_element.Goals.{in_default-via-then-text-lt1}
+use Rattle.descriptor_scan.proofs.field.behind_element.Goals.{in_default-via-in-len1-up+else-is_primitive}
 
 pub returns-in-76 : goal.returns-in-76
 returns-in-76 c =

@@ -1,9 +1,12 @@
 use Rattle.std.proofs.Common.{◌≡◌, [], arith, rules}
 use Rattle.std.specs.Prelude.{codes}
 use Rattle.descriptor_scan.proofs.Passed.{otherwise_at, otherwise_at_end}
-use Rattle.descriptor_scan.proofs.Methods.{one_byte, longer_than_one, void_result, field_result, result_only}
+use Rattle.descriptor_scan.proofs.Methods.{one_byte, longer_than_one, void_result, field_result}
+use Rattle.descriptor_scan.proofs.Methods.{result_only}
 use Rattle.descriptor_scan.proofs.method.is_result.Goals as goal
-use Rattle.descriptor_scan.proofs.method.is_result.Goals.{in_default-via-then-text-lt1, in_default-via-else-text-lt1+then-text-lt2+in_default-1, in_default-via-else-text-lt1+else-text-lt2}
+use Rattle.descriptor_scan.proofs.method.is_result.Goals.{in_default-via-then-text-lt1}
+use Rattle.descriptor_scan.proofs.method.is_result.Goals.{in_default-via-else-text-lt1+then-text-lt2+in_default-1}
+use Rattle.descriptor_scan.proofs.method.is_result.Goals.{in_default-via-else-text-lt1+else-text-lt2}
 
 pub returns-in-86-clause-spelled : goal.returns-in-86-clause-spelled
 returns-in-86-clause-spelled c

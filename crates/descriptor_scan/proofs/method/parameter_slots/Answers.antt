@@ -1,7 +1,8 @@
 use Rattle.std.proofs.Common.{◌∙◌, sym, arith}
 use Rattle.std.proofs.lemmas.Bool.{false≢true}
 use Rattle.descriptor_scan.proofs.Passed.{first_byte, tail_of, otherwise_at, otherwise_at_end}
-use Rattle.descriptor_scan.proofs.Methods.{no_method, no_parameters, no_result, none_by_text, only_so, some_by_text}
+use Rattle.descriptor_scan.proofs.Methods.{no_method, no_parameters, no_result, none_by_text}
+use Rattle.descriptor_scan.proofs.Methods.{only_so, some_by_text}
 use Rattle.descriptor_scan.proofs.method.parameter_slots.Goals as goal
 
 pub returns-in_default-clause-by_text : goal.returns-in_default-clause-by_text
@@ -43,7 +44,8 @@ returns-else-is_result-clause-by_text c =
     (λ t right whole. false≢true (sym c.if-is_result.false
     ∙ c.is_result.ensures.only t right whole)))
 
-pub returns-in_default-behind_formals-clause-by_text : goal.returns-in_default-behind_formals-clause-by_text
+pub returns-in_default-behind_formals-clause-by_text
+    : goal.returns-in_default-behind_formals-clause-by_text
 returns-in_default-behind_formals-clause-by_text c =
     let text = c.args.text.now in
     none_by_text text (λ formals ret s. no_parameters text (tail_of text) formals ret

@@ -4,4 +4,5 @@ use Rattle.java_types.specs.Types.{param_text}
 use Rattle.descriptor_sig.proofs.write.write_params.Given as goal
 
 abbrev pub invariant-loop-param : goal.invariant-loop-param
-invariant-loop-param l = l.out.items ≡ l.initial.out.items ++ flat_map param_text (take l.param-index l.params)
+invariant-loop-param l =
+    l.out.items ≡ l.initial.out.items ++ flat_map param_text (take l.param-index l.params)

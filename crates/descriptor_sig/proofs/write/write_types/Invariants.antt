@@ -4,4 +4,5 @@ use Rattle.java_types.specs.Types.{type_text}
 use Rattle.descriptor_sig.proofs.write.write_types.Given as goal
 
 abbrev pub invariant-loop-ty : goal.invariant-loop-ty
-invariant-loop-ty l = l.out.items ≡ l.initial.out.items ++ flat_map type_text (take l.ty-index l.types)
+invariant-loop-ty l =
+    l.out.items ≡ l.initial.out.items ++ flat_map type_text (take l.ty-index l.types)

@@ -7,6 +7,7 @@ use Rattle.signature_scan.proofs.scanner.scan.Given as goal
 -- the rest of the text gives the verdict, and no more type arguments are open than bytes were read
 abbrev pub invariant-loop-index : goal.invariant-loop-index
 invariant-loop-index l = record {
-  verdict : run l.state l.too_deep l.index (drop l.index l.text) ≡ run (state.Start l.fn.place) None 0 l.text;
+  verdict : run l.state l.too_deep l.index (drop l.index l.text)
+      ≡ run (state.Start l.fn.place) None 0 l.text;
   within : depth_of l.state ≤ l.index;
 }

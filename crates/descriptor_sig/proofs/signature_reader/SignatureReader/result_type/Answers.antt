@@ -6,4 +6,6 @@ pub returns-then-eats : goal.returns-then-eats
 returns-then-eats c = void_built c.args.self.now c.eats.new.self c.if-eats.ensures
 
 pub returns : goal.returns
-returns c = leads_same c.java_type.result (result_leads c.args.self.now c.eats.new.self c.if-eats.ensures) c.java_type.ensures.built
+returns c =
+    leads_same c.java_type.result (result_leads c.args.self.now c.eats.new.self c.if-eats.ensures)
+    c.java_type.ensures.built
