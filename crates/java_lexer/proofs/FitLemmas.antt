@@ -1,13 +1,18 @@
 -- What strings and text blocks stand for has units of 16 bits.
-use Rattle.std.proofs.Common.{◌≡◌, ℕ, zero, suc, ◌+◌, ◌*◌, ◌-◌, ◌<◌, ◌≤◌, Bool, true, false, ◌&&◌, ◌==◌, nat_lt, List, [], ◌∷◌, length, drop, cond, slice_index, refl, arith, if◌then◌else◌}
+use Rattle.std.proofs.Common.{◌≡◌, ℕ, zero, suc, ◌+◌, ◌*◌, ◌-◌, ◌<◌, ◌≤◌, Bool, true, false, ◌&&◌}
+use Rattle.std.proofs.Common.{◌==◌, nat_lt, List, [], ◌∷◌, length, drop, cond, slice_index, refl}
+use Rattle.std.proofs.Common.{arith, if◌then◌else◌}
 use Rattle.std.specs.List.{concat, list_all, AllByRecursion}
 use Rattle.std.specs.Char.{digit_value}
 use Rattle.std.proofs.lemmas.Bool.{ltb-true}
 use Rattle.java_text.specs.declared.character.TheConstants.{BACKSLASH, LINE_FEED}
 use Rattle.java_text.proofs.FitLemmas.{Fit, fit-append, fit-take, fit-drop, and_first, and_second}
 use Rattle.java_lexer.specs.declared.escape.TheConstants.{SIMPLE_ESCAPES}
-use Rattle.java_lexer.specs.Escapes.{is_octal_digit, octal_length, octal_value, octal_digit, look_up, escape_value, escape_units, escape_length, first_item, items_up_to, unescaped, string_units}
-use Rattle.java_lexer.specs.Blocks.{unified_from, behind_line, content, beginning, lines, none, is_blank, margin, trimmed, stripped, block_units}
+use Rattle.java_lexer.specs.Escapes.{is_octal_digit, octal_length, octal_value, octal_digit_value}
+use Rattle.java_lexer.specs.Escapes.{look_up, escape_value, escape_units, escape_length}
+use Rattle.java_lexer.specs.Escapes.{first_item, items_up_to, unescaped, string_units}
+use Rattle.java_lexer.specs.Blocks.{unified_from, behind_line, content, beginning, lines, none}
+use Rattle.java_lexer.specs.Blocks.{is_blank, margin, trimmed, stripped, block_units}
 
 fit_index : (i : ℕ) (units : List ℕ) → Fit units → slice_index units i < 65536
 fit_index i [] h = omega arith
@@ -17,23 +22,42 @@ fit_index (suc i) (c ∷ units) h = fit_index i units h.1
 -- ---- escapes
 
 digit_small : (c : ℕ) → digit_value c ≤ 36
-digit_small c = by (nat_lt c 48) refl (nat_lt c 58) refl (nat_lt c 65) refl (nat_lt c 91) refl (nat_lt c 97) refl (nat_lt c 123) refl where
-  by : (p : Bool) → nat_lt c 48 ≡ p → (q : Bool) → nat_lt c 58 ≡ q → (r : Bool) → nat_lt c 65 ≡ r → (s : Bool) → nat_lt c 91 ≡ s
-      → (t : Bool) → nat_lt c 97 ≡ t → (u : Bool) → nat_lt c 123 ≡ u
-      → cond p 36 (cond q (c - 48) (cond r 36 (cond s (c - 55) (cond t 36 (cond u (c - 87) 36))))) ≤ 36
-  by true ep q eq r er s es t et u eu = omega arith
-  by false ep true eq r er s es t et u eu = let h = ltb-true c 58 eq in omega (arith, h)
-  by false ep false eq true er s es t et u eu = omega arith
-  by false ep false eq false er true es t et u eu = let h = ltb-true c 91 es in omega (arith, h)
-  by false ep false eq false er false es true et u eu = omega arith
-  by false ep false eq false er false es false et true eu = let h = ltb-true c 123 eu in omega (arith, h)
-  by false ep false eq false er false es false et false eu = omega arith
+digit_small c =
+    by (nat_lt c 48) refl (nat_lt c 58) refl (nat_lt c 65) refl (nat_lt c 91) refl
+    (nat_lt c 97) refl (nat_lt c 123) refl where
+      by : (p : Bool) → nat_lt c 48 ≡ p → (q : Bool) → nat_lt c 58 ≡ q → (r : Bool)
+          → nat_lt c 65 ≡ r
+          → (s : Bool) → nat_lt c 91 ≡ s
+          → (t : Bool) → nat_lt c 97 ≡ t → (u : Bool) → nat_lt c 123 ≡ u
+          → cond p 36
+          (cond q (c - 48) (cond r 36 (cond s (c - 55) (cond t 36 (cond u (c - 87) 36))))) ≤ 36
+      by true ep q eq r er s es t et u eu = omega arith
+      by false ep true eq r er s es t et u eu = let h = ltb-true c 58 eq in omega (arith, h)
+      by false ep false eq true er s es t et u eu = omega arith
+      by false ep false eq false er true es t et u eu = let h = ltb-true c 91 es
+          in omega (arith, h)
+      by false ep false eq false er false es true et u eu = omega arith
+      by false ep false eq false er false es false et true eu = let h = ltb-true c 123 eu in
+          omega (arith, h)
+      by false ep false eq false er false es false et false eu = omega arith
 
 octal_small : (units : List ℕ) → octal_value units < 65536
 octal_small units = by (octal_length units == 3) (octal_length units == 2) where
-  by : (p q : Bool) → (if p then (octal_digit units 0 * 8 + octal_digit units 1) * 8 + octal_digit units 2 else (if q then octal_digit units 0 * 8 + octal_digit units 1 else octal_digit units 0)) < 65536
-  by true q = omega (arith, digit_small (slice_index units 0), digit_small (slice_index units 1), digit_small (slice_index units 2))
-  by false true = omega (arith, digit_small (slice_index units 0), digit_small (slice_index units 1))
+  by : (p q : Bool)
+      → (if p
+      then (octal_digit_value units 0 * 8 + octal_digit_value units 1) * 8 + octal_digit_value
+      units
+      2 else (if q then octal_digit_value units 0 * 8 + octal_digit_value units 1
+      else octal_digit_value units 0)) < 65536
+  by true q =
+      omega (
+        arith,
+        digit_small (slice_index units 0),
+        digit_small (slice_index units 1),
+        digit_small (slice_index units 2),
+      )
+  by false true =
+      omega (arith, digit_small (slice_index units 0), digit_small (slice_index units 1))
   by false false = omega (arith, digit_small (slice_index units 0))
 
 chosen : (b : Bool) (x y : ℕ) → x < 65536 → y < 65536 → (if b then x else y) < 65536
@@ -44,16 +68,22 @@ chosen_fit : (b : Bool) (xs ys : List ℕ) → Fit xs → Fit ys → Fit (if b t
 chosen_fit true xs ys h k = h
 chosen_fit false xs ys h k = k
 
-look_up_small : (entries : List (ℕ × ℕ)) (c : ℕ) → list_all (λ (entry : ℕ × ℕ). nat_lt entry.1 65536) entries ≡ true → c < 65536 → look_up entries c < 65536
+look_up_small : (entries : List (ℕ × ℕ)) (c : ℕ)
+    → list_all (λ (entry : ℕ × ℕ). nat_lt entry.1 65536) entries ≡ true → c < 65536
+    → look_up entries c < 65536
 look_up_small [] c e h = h
 look_up_small (entry ∷ entries) c e h =
-    chosen (c == entry.0) _ _ (ltb-true entry.1 65536 (and_first _ _ e)) (look_up_small entries c (and_second (nat_lt entry.1 65536) _ e) h)
+    chosen (c == entry.0) _ _ (ltb-true entry.1 65536 (and_first _ _ e))
+    (look_up_small entries c (and_second (nat_lt entry.1 65536) _ e) h)
 
 value_small : (units : List ℕ) → Fit units → escape_value units < 65536
-value_small units h = chosen (is_octal_digit (slice_index units 0)) _ _ (octal_small units) (look_up_small SIMPLE_ESCAPES (slice_index units 0) refl (fit_index 0 units h))
+value_small units h =
+    chosen (is_octal_digit (slice_index units 0)) _ _ (octal_small units)
+    (look_up_small SIMPLE_ESCAPES (slice_index units 0) refl (fit_index 0 units h))
 
 escape_fits : (units : List ℕ) → Fit units → Fit (escape_units units)
-escape_fits units h = chosen_fit (slice_index units 0 == LINE_FEED) _ _ tt (value_small units h, tt)
+escape_fits units h = chosen_fit (slice_index units 0 == LINE_FEED) _ _ tt
+    (value_small units h, tt)
 
 record Split (first : List ℕ × List ℕ) : Type 0 where
   item : Fit first.0
@@ -61,7 +91,9 @@ record Split (first : List ℕ × List ℕ) : Type 0 where
 
 first_fits : (c : ℕ) (units : List ℕ) → c < 65536 → Fit units → Split (first_item c units)
 first_fits c units h k = by (c == BACKSLASH) where
-  by : (b : Bool) → Split (if b then (escape_units units, drop (escape_length units) units) else (c ∷ [], units))
+  by : (b : Bool)
+      → Split (if b then (escape_units units, drop (escape_length units) units)
+      else (c ∷ [], units))
   by true = record { item = escape_fits units k; rest = fit-drop (escape_length units) units k }
   by false = record { item = (h, tt); rest = k }
 
@@ -71,13 +103,15 @@ items_fit zero units h = tt
 items_fit (suc n) [] h = tt
 items_fit (suc n) (c ∷ units) h =
     let split = first_fits c units h.0 h.1 in
-    fit-append (first_item c units).0 (concat (items_up_to n (first_item c units).1)) split.item (items_fit n (first_item c units).1 split.rest)
+    fit-append (first_item c units).0 (concat (items_up_to n (first_item c units).1)) split.item
+    (items_fit n (first_item c units).1 split.rest)
 
 unescaped_fits : (units : List ℕ) → Fit units → Fit (unescaped units)
 unescaped_fits units h = items_fit (length units) units h
 
 pub string_fits : (units : List ℕ) → Fit units → Fit (string_units units)
-string_fits units h = unescaped_fits _ (fit-take (length units - 2) (drop 1 units) (fit-drop 1 units h))
+string_fits units h =
+    unescaped_fits _ (fit-take (length units - 2) (drop 1 units) (fit-drop 1 units h))
 
 -- ---- text blocks
 
@@ -85,7 +119,8 @@ unified_fits : (after : Bool) (units : List ℕ) → Fit units → Fit (unified_
 unfolding unified_from
 unified_fits after [] h = tt
 unified_fits after (c ∷ units) h =
-    chosen_fit (c == 10 && after) _ _ (unified_fits false units h.1) (chosen (c == 13) 10 c (omega arith) h.0, unified_fits (c == 13) units h.1)
+    chosen_fit (c == 10 && after) _ _ (unified_fits false units h.1)
+    (chosen (c == 13) 10 c (omega arith) h.0, unified_fits (c == 13) units h.1)
 
 behind_fits : (units : List ℕ) → Fit units → Fit (behind_line units)
 behind_fits [] h = tt
@@ -98,14 +133,17 @@ beginning_fits : (c : ℕ) (ls : List (List ℕ)) → c < 65536 → AllFit ls �
 beginning_fits c [] h k = ((h, tt), tt)
 beginning_fits c (line ∷ ls) h k = ((h, k.0), k.1)
 
-chosen_lines : (b : Bool) (xs ys : List (List ℕ)) → AllFit xs → AllFit ys → AllFit (if b then xs else ys)
+chosen_lines : (b : Bool) (xs ys : List (List ℕ)) → AllFit xs → AllFit ys
+    → AllFit (if b then xs else ys)
 chosen_lines true xs ys h k = h
 chosen_lines false xs ys h k = k
 
 lines_fit : (units : List ℕ) → Fit units → AllFit (lines units)
 unfolding lines
 lines_fit [] h = (tt, tt)
-lines_fit (c ∷ units) h = chosen_lines (c == 10) _ _ (tt, lines_fit units h.1) (beginning_fits c (lines units) h.0 (lines_fit units h.1))
+lines_fit (c ∷ units) h =
+    chosen_lines (c == 10) _ _ (tt, lines_fit units h.1)
+    (beginning_fits c (lines units) h.0 (lines_fit units h.1))
 
 trimmed_fits : (line : List ℕ) → Fit line → Fit (trimmed line)
 trimmed_fits [] h = tt
@@ -115,11 +153,18 @@ stripped_fits : (width : ℕ) (ls : List (List ℕ)) → AllFit ls → Fit (stri
 unfolding stripped
 stripped_fits width [] h = tt
 stripped_fits width (line ∷ ls) h =
-    fit-append (trimmed (drop width line)) _ (trimmed_fits (drop width line) (fit-drop width line h.0))
+    fit-append (trimmed (drop width line)) _
+    (trimmed_fits (drop width line) (fit-drop width line h.0))
     (chosen_fit (none ls) _ _ tt (omega arith, stripped_fits width ls h.1))
 
 content_fits : (units : List ℕ) → Fit units → Fit (content units)
-content_fits units h = let inner = behind_line (unified_from false units) in fit-take (length inner - 3) inner (behind_fits (unified_from false units) (unified_fits false units h))
+content_fits units h = let inner = behind_line (unified_from false units) in
+    fit-take (length inner - 3) inner
+    (behind_fits (unified_from false units) (unified_fits false units h))
 
 pub block_fits : (units : List ℕ) → Fit units → Fit (block_units units)
-block_fits units h = unescaped_fits _ (stripped_fits (margin (length (content units)) (lines (content units))) (lines (content units)) (lines_fit (content units) (content_fits units h)))
+block_fits units h =
+    unescaped_fits _
+    (stripped_fits (margin (length (content units)) (lines (content units)))
+    (lines (content units))
+    (lines_fit (content units) (content_fits units h)))

@@ -1,6 +1,7 @@
 -- What each form of the machine stands for: what the grammar leaves behind some text.
-use Rattle.std.proofs.Common.{◌≡◌, ℕ, zero, suc, ◌<◌, Bool, true, false, if◌then◌else◌, List, [], ◌∷◌, ◌++◌, map, codes, Option, Some, None, refl, arith, inl, inr}
-use Rattle.std.proofs.lemmas.Bool.{cases_lt}
+use Rattle.std.proofs.Common.{◌≡◌, ℕ, ◌<◌, Bool, true, false, if◌then◌else◌, List, [], ◌∷◌, ◌++◌}
+use Rattle.std.proofs.Common.{map, codes, Option, Some, None, refl}
+use Rattle.lemmas.proofs.Tables.{below, same_below}
 use Rattle.java_token.specs.declared.operator.OpTok.{OpTok}
 use Rattle.java_token.specs.declared.operator.OpTok.TheVariants as op
 use Rattle.java_token.specs.contracts.operator.OpTokPartialEq.TheImpl.{ghosts}
@@ -12,7 +13,10 @@ use Rattle.java_lexer.specs.declared.number.Number.{Number}
 use Rattle.java_lexer.specs.declared.number.Number.TheVariants as number
 use Rattle.java_lexer.specs.declared.quoted.Quoted.{Quoted}
 use Rattle.java_lexer.specs.declared.quoted.Quoted.TheVariants as quoted
-use Rattle.java_lexer.specs.Grammar.{Production, Spelling, Except, Many, StringTail, BlockTail, Read, Characters, Quote, TwoQuotes, Backslash, the, line_ends, blanks, integers, decimals, hexadecimals, literals, operators, kind_by, grammar, comment}
+use Rattle.java_lexer.specs.Grammar.{Production, Spelling, Except, Many, StringTail, BlockTail}
+use Rattle.java_lexer.specs.Grammar.{Read, Characters, Quote, TwoQuotes, Backslash, the}
+use Rattle.java_lexer.specs.Grammar.{line_terminators, blanks, integers, decimals, hexadecimals}
+use Rattle.java_lexer.specs.Grammar.{literals, operators, kind_by, grammar, comment}
 use Rattle.java_lexer.specs.declared.kind.Kind.TheVariants as kind
 use Rattle.java_lexer.specs.Machine.{next_form, first_form, form_kind}
 use Rattle.java_lexer.proofs.Derive.{derive}
@@ -24,7 +28,8 @@ behind (c ∷ w) ps = behind w (derive ps c)
 -- how the table writes an operator
 abbrev pub spelling_in : List Spelling → OpTok → List ℕ
 spelling_in [] operator = []
-spelling_in (entry ∷ entries) operator = if ghosts.eq entry.1 operator then entry.0.now else spelling_in entries operator
+spelling_in (entry ∷ entries) operator =
+    if ghosts.eq entry.1 operator then entry.0.now else spelling_in entries operator
 
 abbrev pub spelling : OpTok → List ℕ
 spelling operator = spelling_in OPERATORS operator
@@ -74,12 +79,13 @@ block_left read = (kind.TextBlock, BlockTail read ∷ []) ∷ []
 abbrev pub numbers : List Production
 numbers = integers ++ (decimals ++ hexadecimals)
 
--- What may follow each form: what the grammar leaves, or that part of it of which something is left. Where
--- a form stands behind most symbols, that is written out. The rows below check all of it.
+-- What may follow each form: what the grammar leaves, or that part of it of which something is
+-- left. Where a form stands behind most symbols, that is written out. The rows below check all of
+-- it.
 unfoldable pub stands : Form → List Production
 stands (form.Closed k) = (k, []) ∷ []
 stands form.Return = behind (13 ∷ []) blanks
-stands form.LineComment = (kind.Blank, Many (Except line_ends) ∷ []) ∷ []
+stands form.LineComment = (kind.Blank, Many (Except line_terminators) ∷ []) ∷ []
 stands (form.Comment true) = behind (codes "/**") comment
 stands (form.Comment false) = behind (codes "/*") comment
 stands (form.Operator op.Dot) = behind (codes ".") grammar
@@ -100,19 +106,6 @@ abbrev pub stands_if : Option Form → List Production
 stands_if None = []
 stands_if (Some q) = stands q
 
--- the numbers below k, the greatest first
-abbrev pub below : ℕ → List ℕ
-below zero = []
-below (suc k) = k ∷ below k
-
--- two functions with the same values below k are one there
-pub same_below : {A : Type 0} (f g : ℕ → A) (k c : ℕ) → map f (below k) ≡ map g (below k) → c < k → f c ≡ g c
-same_below f g zero c e h = absurd (omega arith)
-same_below f g (suc k) c e h = elim (cases_lt c k) [
-  | inl l ↦ same_below f g k c (cc) l
-  | inr l ↦ (let q : c ≡ k = omega arith in rw q (cc))
-]
-
 -- what is left behind each symbol
 abbrev pub row : List Production → List (List Production)
 row ps = map (derive ps) (below 129)
@@ -120,7 +113,8 @@ row ps = map (derive ps) (below 129)
 abbrev pub next_row : Form → List (List Production)
 next_row q = map (λ s. stands_if (next_form q s)) (below 129)
 
-tabled : (q : Form) → row (stands q) ≡ next_row q → (s : ℕ) → s < 129 → derive (stands q) s ≡ stands_if (next_form q s)
+tabled : (q : Form) → row (stands q) ≡ next_row q → (s : ℕ) → s < 129
+    → derive (stands q) s ≡ stands_if (next_form q s)
 tabled q e s h = same_below (derive (stands q)) (λ t. stands_if (next_form q t)) 129 s e h
 
 number_rows : (x : Number) → row (stands (form.Number x)) ≡ next_row (form.Number x)
@@ -237,7 +231,8 @@ return_row : row (stands form.Return) ≡ next_row form.Return
 unfolding stands grammar comment
 return_row = refl
 
-closed_next : (k : Kind) (s : ℕ) → derive (stands (form.Closed k)) s ≡ stands_if (next_form (form.Closed k) s)
+closed_next : (k : Kind) (s : ℕ)
+    → derive (stands (form.Closed k)) s ≡ stands_if (next_form (form.Closed k) s)
 unfolding stands
 closed_next k s = refl
 

@@ -1,5 +1,6 @@
 -- Pieces that are found without the machine.
-use Rattle.std.proofs.Common.{◌≡◌, ℕ, ◌<◌, List, [], ◌∷◌, length, drop, get_or, Option, Some, None, refl, sym, ◌∙◌, arith}
+use Rattle.std.proofs.Common.{◌≡◌, ℕ, ◌<◌, List, [], ◌∷◌, length, drop, get_or, Option, Some}
+use Rattle.std.proofs.Common.{None, refl, sym, ◌∙◌, arith}
 use Rattle.java_text.proofs.LetterLemmas.{ascii_start}
 use Rattle.java_lexer.specs.declared.kind.Kind.{Kind}
 use Rattle.java_lexer.specs.declared.kind.Kind.TheVariants as kind
@@ -19,12 +20,15 @@ pub line_step : next_state state.Start 10 ≡ Some blank
 line_step = rw (ascii_start 10 (omega arith)) refl
 
 -- nothing goes on a closed piece
-closed_scanned : (k : Kind) (n : ℕ) (best : Option (ℕ × Kind)) (cs : List ℕ) → scan (state.Other (form.Closed k)) n best cs ≡ best
+closed_scanned : (k : Kind) (n : ℕ) (best : Option (ℕ × Kind)) (cs : List ℕ)
+    → scan (state.Other (form.Closed k)) n best cs ≡ best
 closed_scanned k n best [] = refl
 closed_scanned k n best (c ∷ cs) = refl
 
 -- a blank alone is a piece
-pub blank_scanned : (units : List ℕ) → 0 < length units → next_state state.Start (get_or units 0 0) ≡ Some blank
+pub blank_scanned : (units : List ℕ) → 0 < length units
+    → next_state state.Start (get_or units 0 0) ≡ Some blank
     → scan state.Start 0 None units ≡ Some (1, kind.Blank)
 blank_scanned units h e =
-    sym (scan_more state.Start blank 0 None (Some (1, kind.Blank)) units h e refl) ∙ closed_scanned kind.Blank 1 (Some (1, kind.Blank)) (drop 1 units)
+    sym (scan_more state.Start blank 0 None (Some (1, kind.Blank)) units h e refl)
+    ∙ closed_scanned kind.Blank 1 (Some (1, kind.Blank)) (drop 1 units)

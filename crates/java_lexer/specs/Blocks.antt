@@ -1,5 +1,6 @@
 -- What a text block stands for (JLS 3.10.6), in UTF-16 units.
-use Rattle.std.specs.Prelude.{ℕ, suc, ◌-◌, Bool, true, false, ◌&&◌, not, ◌==◌, List, [], ◌∷◌, ◌++◌, length, take, drop, min, take_while, if◌then◌else◌}
+use Rattle.std.specs.Prelude.{ℕ, suc, ◌-◌, Bool, true, false, ◌&&◌, not, ◌==◌, List, [], ◌∷◌}
+use Rattle.std.specs.Prelude.{◌++◌, length, take, drop, min, take_while, if◌then◌else◌}
 use Rattle.std.specs.List.{list_all}
 use Rattle.java_text.specs.declared.character.TheConstants.{CARRIAGE_RETURN, LINE_FEED}
 use Rattle.java_text.specs.Letters.{is_white}
@@ -8,8 +9,10 @@ use Rattle.java_lexer.specs.Escapes.{unescaped}
 -- line terminators become line feeds: CR LF is one; the flag says that a CR came right before
 unfoldable pub unified_from : Bool → List ℕ → List ℕ
 unified_from after_return [] = []
-unified_from after_return (c ∷ units) = if c == LINE_FEED && after_return then unified_from false units
-    else (if c == CARRIAGE_RETURN then LINE_FEED else c) ∷ unified_from (c == CARRIAGE_RETURN) units
+unified_from after_return (c ∷ units) =
+    if c == LINE_FEED && after_return then unified_from false units
+    else (if c == CARRIAGE_RETURN then LINE_FEED else c)
+    ∷ unified_from (c == CARRIAGE_RETURN) units
 
 -- what stands behind the first line feed
 abbrev pub behind_line : List ℕ → List ℕ
@@ -48,7 +51,9 @@ none (line ∷ lines) = false
 -- the least indentation of the lines that are not blank and of the last, if it is below the bound
 unfoldable pub margin : ℕ → List (List ℕ) → ℕ
 margin bound [] = bound
-margin bound (line ∷ lines) = margin (if is_blank line && not (none lines) then bound else min bound (indentation line)) lines
+margin bound (line ∷ lines) =
+    margin (if is_blank line && not (none lines) then bound else min bound (indentation line))
+    lines
 
 -- the line without the white space at its end
 abbrev pub trimmed : List ℕ → List ℕ
@@ -63,4 +68,5 @@ stripped width (line ∷ lines) =
 
 -- incidental white space is removed before escapes are read
 abbrev pub block_units : List ℕ → List ℕ
-block_units units = let inner = content units in unescaped (stripped (margin (length inner) (lines inner)) (lines inner))
+block_units units = let inner = content units in
+    unescaped (stripped (margin (length inner) (lines inner)) (lines inner))

@@ -1,5 +1,6 @@
 -- What private functions do that cut a text. Only their contracts cite it.
-use Rattle.std.specs.Prelude.{◌≡◌, ℕ, ◌≤◌, Bool, ◌==◌, List, [], ◌∷◌, length, take, drop, false, Option, Some, None}
+use Rattle.std.specs.Prelude.{◌≡◌, ℕ, ◌≤◌, Bool, ◌==◌, List, [], ◌∷◌, length, take, drop, false}
+use Rattle.std.specs.Prelude.{Option, Some, None}
 use Rattle.java_token.specs.declared.token.Token.{Token}
 use Rattle.java_token.specs.declared.token.TokenKind.{TokenKind}
 use Rattle.java_text.specs.declared.character.TheConstants.{CARRIAGE_RETURN}

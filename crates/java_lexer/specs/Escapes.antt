@@ -1,5 +1,6 @@
 -- What the characters of a literal stand for (JLS 3.10.7), in UTF-16 units.
-use Rattle.std.specs.Prelude.{ℕ, zero, suc, ◌+◌, ◌-◌, ◌*◌, Bool, ◌&&◌, ◌==◌, List, [], ◌∷◌, slice_index, length, take, drop, if◌then◌else◌}
+use Rattle.std.specs.Prelude.{ℕ, zero, suc, ◌+◌, ◌-◌, ◌*◌, Bool, ◌&&◌, ◌==◌, List, [], ◌∷◌}
+use Rattle.std.specs.Prelude.{slice_index, length, take, drop, if◌then◌else◌}
 use Rattle.std.specs.List.{concat}
 use Rattle.std.specs.Char.{is_digit, digit_value}
 use Rattle.java_text.specs.declared.character.TheConstants.{BACKSLASH, LINE_FEED}
@@ -15,21 +16,24 @@ abbrev pub is_zero_to_three : ℕ → Bool
 is_zero_to_three c = is_digit c 4
 
 -- what the octal digit at a place stands for
-abbrev pub octal_digit : List ℕ → ℕ → ℕ
-octal_digit units place = digit_value (slice_index units place)
+abbrev pub octal_digit_value : List ℕ → ℕ → ℕ
+octal_digit_value units place = digit_value (slice_index units place)
 
--- how many octal digits an octal escape has: as many as stand there, up to two, or three of which the
--- first is at most three
+-- how many octal digits an octal escape has: as many as stand there, up to two, or three of which
+-- the first is at most three
 abbrev pub octal_length : List ℕ → ℕ
 octal_length units = if is_octal_digit (slice_index units 1)
-    then (if is_zero_to_three (slice_index units 0) && is_octal_digit (slice_index units 2) then 3 else 2)
+    then (if is_zero_to_three (slice_index units 0) && is_octal_digit (slice_index units 2) then 3
+    else 2)
     else 1
 
 -- the number of these digits
 abbrev pub octal_value : List ℕ → ℕ
 octal_value units = if octal_length units == 3
-    then (octal_digit units 0 * 8 + octal_digit units 1) * 8 + octal_digit units 2
-    else (if octal_length units == 2 then octal_digit units 0 * 8 + octal_digit units 1 else octal_digit units 0)
+    then (octal_digit_value units 0 * 8 + octal_digit_value units 1) * 8 + octal_digit_value units
+    2
+    else (if octal_length units == 2 then octal_digit_value units 0 * 8 + octal_digit_value units 1
+    else octal_digit_value units 0)
 
 -- what the table has for a unit: without an entry it stands for itself
 abbrev pub look_up : List (ℕ × ℕ) → ℕ → ℕ
@@ -71,12 +75,12 @@ abbrev pub unescaped : List ℕ → List ℕ
 unescaped units = concat (items_of units)
 
 -- the units between the quotation marks of a string
-abbrev pub between : List ℕ → List ℕ
-between units = take (length units - 2) (drop 1 units)
+abbrev pub between_quotes : List ℕ → List ℕ
+between_quotes units = take (length units - 2) (drop 1 units)
 
 -- what a string literal stands for (JLS 3.10.5)
 abbrev pub string_units : List ℕ → List ℕ
-string_units units = unescaped (between units)
+string_units units = unescaped (between_quotes units)
 
 -- the unit that a character literal stands for (JLS 3.10.4)
 abbrev pub character_unit : List ℕ → ℕ

@@ -35,11 +35,13 @@ IsHopeless bytes f = (more : List ℕ) → lexed (bytes ++ more) ≡ Err f
 
 -- more bytes are fed, and these tokens told
 abbrev pub fed_more : Fed → List ℕ → List Token → Fed
-fed_more old piece tokens = record { fed = old.fed ++ piece; told = old.told ++ tokens; standing = standing.Open }
+fed_more old piece tokens =
+    record { fed = old.fed ++ piece; told = old.told ++ tokens; standing = standing.Open }
 
 -- the text has ended, and these tokens are told
 abbrev pub finished : Fed → List Token → Fed
-finished old tokens = record { fed = old.fed; told = old.told ++ tokens; standing = standing.Finished }
+finished old tokens =
+    record { fed = old.fed; told = old.told ++ tokens; standing = standing.Finished }
 
 -- the lexer answers this for good
 abbrev pub refused : Fed → LexErr → Fed

@@ -1,10 +1,14 @@
--- The lexical grammar of JLS 3.6, 3.7, 3.10, 3.11 and 3.12: productions, each a sequence of items. A
--- production spells a list of units where the list is cut into parts that its items spell, one after
--- the other. Identifiers (JLS 3.8) are in Words, traditional comments in `comment` below.
-use Rattle.std.specs.Prelude.{ℕ, Bool, true, false, ◌&&◌, ◌||◌, not, ◌==◌, nat_le, List, [], ◌∷◌, ◌++◌, map, min, codes, Option, Some, None, if◌then◌else◌}
+-- The lexical grammar of JLS 3.6, 3.7, 3.10, 3.11 and 3.12: productions, each a sequence of items.
+-- A production spells a list of units where the list is cut into parts that its items spell, one
+-- after the other. Identifiers (JLS 3.8) are in Words, traditional comments in `comment` below.
+use Rattle.std.specs.Prelude.{ℕ, Bool, true, false, ◌&&◌, ◌||◌, not, ◌==◌, nat_le, List, [], ◌∷◌}
+use Rattle.std.specs.Prelude.{◌++◌, map, min, codes, Option, Some, None, if◌then◌else◌}
 use Rattle.std.specs.List.{list_any, list_all}
 use Rattle.java_token.specs.declared.operator.OpTok.{OpTok}
-use Rattle.java_text.specs.declared.character.TheConstants.{APOSTROPHE, ASTERISK, BACKSLASH, CARRIAGE_RETURN, FORM_FEED, LINE_FEED, LOW_LINE, QUOTATION_MARK, SLASH, SPACE, TAB}
+use Rattle.java_text.specs.declared.character.TheConstants.{APOSTROPHE, ASTERISK, BACKSLASH}
+use Rattle.java_text.specs.declared.character.TheConstants.{CARRIAGE_RETURN, FORM_FEED, LINE_FEED}
+use Rattle.java_text.specs.declared.character.TheConstants.{LOW_LINE, QUOTATION_MARK, SLASH}
+use Rattle.java_text.specs.declared.character.TheConstants.{SPACE, TAB}
 use Rattle.java_lexer.specs.declared.kind.Kind.{Kind}
 use Rattle.java_lexer.specs.declared.kind.Kind.TheVariants as kind
 use Rattle.java_lexer.specs.declared.escape.TheConstants.{SIMPLE_ESCAPES}
@@ -27,8 +31,8 @@ holds (Except units) s = not (list_any (λ u. u == s) units)
 abbrev pub has : Units → ℕ → Bool
 has units c = holds units (symbol c)
 
--- what has been read of a text block: whole characters, or one or two quotation marks of three, or the
--- backslash of an escape
+-- what has been read of a text block: whole characters, or one or two quotation marks of three, or
+-- the backslash of an escape
 pub data Read : Type 0 where
   Characters : Read
   Quote : Read
@@ -39,10 +43,12 @@ pub data Read : Type 0 where
 -- One: one unit of the set. Maybe: the same, or nothing. Many: any number of units of the set.
 -- Tail: what follows a digit in a run of digits: digits and underscores, of which the last is no
 --   underscore (JLS 3.10.1); the flag says that an underscore stands right before.
--- StringTail: the characters of a string up to its closing quotation mark (JLS 3.10.5); the flag says
+-- StringTail: the characters of a string up to its closing quotation mark (JLS 3.10.5); the flag
+-- says
 --   that an escape has begun.
 -- BlockTail: the rest of a text block (JLS 3.10.6), behind what has been read of it.
--- CommentTail: the rest of a traditional comment (JLS 3.7), which ends at its first `*/`; the flag says
+-- CommentTail: the rest of a traditional comment (JLS 3.7), which ends at its first `*/`; the flag
+-- says
 --   that an asterisk stands right before.
 pub data Item : Type 0 where
   One : Units → Item
@@ -58,8 +64,8 @@ is_empty [] = true
 is_empty (c ∷ w) = false
 
 -- a line terminator is a line feed, a carriage return, or the one behind the other (JLS 3.4)
-abbrev pub line_ends : List ℕ
-line_ends = LINE_FEED ∷ CARRIAGE_RETURN ∷ []
+abbrev pub line_terminators : List ℕ
+line_terminators = LINE_FEED ∷ CARRIAGE_RETURN ∷ []
 
 abbrev pub any_of : List ℕ → Units
 any_of units = Within (map (λ c. (c, c)) units)
@@ -75,8 +81,9 @@ from_to texts = Within (map first_and_last texts)
 abbrev pub octal_digit : Units
 octal_digit = from_to (codes "07" ∷ [])
 
--- What stands behind a backslash in an escape of one unit (JLS 3.10.7): a letter or a sign of the table,
--- or an octal digit. Further octal digits spell characters too, so they need no rule in a string.
+-- What stands behind a backslash in an escape of one unit (JLS 3.10.7): a letter or a sign of the
+-- table, or an octal digit. Further octal digits spell characters too, so they need no rule in a
+-- string.
 abbrev pub simple_escape : Units
 simple_escape = any_of (map (λ (entry : ℕ × ℕ). entry.0) SIMPLE_ESCAPES)
 
@@ -91,7 +98,7 @@ is_tail digits gap (c ∷ w) = if has digits c then is_tail digits false w
 abbrev pub is_string_tail : Bool → List ℕ → Bool
 is_string_tail escaped [] = not escaped
 is_string_tail false (c ∷ w) = if symbol c == BACKSLASH then is_string_tail true w
-    else (has (Except (QUOTATION_MARK ∷ line_ends)) c && is_string_tail false w)
+    else (has (Except (QUOTATION_MARK ∷ line_terminators)) c && is_string_tail false w)
 is_string_tail true (c ∷ w) = begins_escape c && is_string_tail false w
 
 -- some front passes p, and what follows it q
@@ -99,17 +106,18 @@ abbrev pub is_cut : (List ℕ → Bool) → (List ℕ → Bool) → List ℕ →
 is_cut p q [] = p [] && q []
 is_cut p q (c ∷ w) = (p [] && q (c ∷ w)) || is_cut (λ v. p (c ∷ v)) q w
 
--- the characters of a text block: any unit but a backslash, or an escape, which may be one of a line
--- terminator
+-- the characters of a text block: any unit but a backslash, or an escape, which may be one of a
+-- line terminator
 abbrev pub are_block_characters : List ℕ → Bool
 are_block_characters [] = true
 are_block_characters (c ∷ []) = not (c == BACKSLASH)
 are_block_characters (c ∷ d ∷ w) = if c == BACKSLASH
-    then (begins_escape d || has (any_of line_ends) d) && are_block_characters w
+    then (begins_escape d || has (any_of line_terminators) d) && are_block_characters w
     else are_block_characters (d ∷ w)
 
 abbrev pub are_three_quotes : List ℕ → Bool
-are_three_quotes (a ∷ b ∷ c ∷ []) = a == QUOTATION_MARK && (b == QUOTATION_MARK && c == QUOTATION_MARK)
+are_three_quotes (a ∷ b ∷ c ∷ []) =
+    a == QUOTATION_MARK && (b == QUOTATION_MARK && c == QUOTATION_MARK)
 are_three_quotes _ = false
 
 -- such characters, and three quotation marks behind them
@@ -174,7 +182,7 @@ text units = map the units
 abbrev pub blanks : List Production
 blanks = (kind.Blank, One (any_of (SPACE ∷ TAB ∷ FORM_FEED ∷ LINE_FEED ∷ [])) ∷ [])
     ∷ (kind.Blank, the CARRIAGE_RETURN ∷ Maybe (any_of (LINE_FEED ∷ [])) ∷ [])
-    ∷ (kind.Blank, text (codes "//") ++ Many (Except line_ends) ∷ []) ∷ []
+    ∷ (kind.Blank, text (codes "//") ++ Many (Except line_terminators) ∷ []) ∷ []
 
 abbrev pub digit : Units
 digit = from_to (codes "09" ∷ [])
@@ -202,8 +210,8 @@ hex_mark = text (codes "0") ++ One (any_of (codes "xX")) ∷ []
 abbrev pub binary_mark : List Item
 binary_mark = text (codes "0") ++ One (any_of (codes "bB")) ∷ []
 
--- Integer literals (JLS 3.10.1): 0, or digits of which the first is not 0; 0x and hexadecimal digits; 0
--- and octal digits, with underscores before the first or without; 0b and binary digits.
+-- Integer literals (JLS 3.10.1): 0, or digits of which the first is not 0; 0x and hexadecimal
+-- digits; 0 and octal digits, with underscores before the first or without; 0b and binary digits.
 abbrev pub integers : List Production
 integers = integer (text (codes "0"))
     ∷ integer (One non_zero_digit ∷ Tail digit false ∷ [])
@@ -232,8 +240,9 @@ floating_point items = (kind.FloatingPoint, items ++ Maybe float_type_suffix ∷
 abbrev pub point : List Item
 point = text (codes ".")
 
--- Decimal floating-point literals (JLS 3.10.2): digits, a point, and then digits or none, an exponent or
--- none; a point and digits; digits and an exponent; digits and a suffix. A suffix may follow each.
+-- Decimal floating-point literals (JLS 3.10.2): digits, a point, and then digits or none, an
+-- exponent or none; a point and digits; digits and an exponent; digits and a suffix. A suffix may
+-- follow each.
 abbrev pub decimals : List Production
 decimals = floating_point (digits digit ++ (point ++ (digits digit ++ exponent_part)))
     ∷ floating_point (digits digit ++ (point ++ digits digit))
@@ -244,12 +253,14 @@ decimals = floating_point (digits digit ++ (point ++ (digits digit ++ exponent_p
     ∷ floating_point (digits digit ++ exponent_part)
     ∷ (kind.FloatingPoint, digits digit ++ One float_type_suffix ∷ []) ∷ []
 
--- Hexadecimal floating-point literals (JLS 3.10.2): the digits may have a point behind them, before them
--- or among them, and a binary exponent follows.
+-- Hexadecimal floating-point literals (JLS 3.10.2): the digits may have a point behind them,
+-- before them or among them, and a binary exponent follows.
 abbrev pub hexadecimals : List Production
-hexadecimals = floating_point (hex_mark ++ (digits hex_digit ++ Maybe (any_of (codes ".")) ∷ binary_exponent))
+hexadecimals =
+    floating_point (hex_mark ++ (digits hex_digit ++ Maybe (any_of (codes ".")) ∷ binary_exponent))
     ∷ floating_point (hex_mark ++ (point ++ (digits hex_digit ++ binary_exponent)))
-    ∷ floating_point (hex_mark ++ (digits hex_digit ++ (point ++ (digits hex_digit ++ binary_exponent)))) ∷ []
+    ∷ floating_point
+    (hex_mark ++ (digits hex_digit ++ (point ++ (digits hex_digit ++ binary_exponent)))) ∷ []
 
 abbrev pub zero_to_three : Units
 zero_to_three = from_to (codes "03" ∷ [])
@@ -258,12 +269,12 @@ zero_to_three = from_to (codes "03" ∷ [])
 abbrev pub character : List Item → Production
 character items = (kind.Character, the APOSTROPHE ∷ (items ++ the APOSTROPHE ∷ []))
 
--- A character literal (JLS 3.10.4) holds one unit, or an escape (JLS 3.10.7): a backslash and a letter or
--- sign, or one to three octal digits, three only where the first is at most 3. A string literal
--- (JLS 3.10.5) stands on one line. A text block (JLS 3.10.6) has white space and a line terminator behind
--- its opening quotation marks.
+-- A character literal (JLS 3.10.4) holds one unit, or an escape (JLS 3.10.7): a backslash and a
+-- letter or sign, or one to three octal digits, three only where the first is at most 3. A string
+-- literal (JLS 3.10.5) stands on one line. A text block (JLS 3.10.6) has white space and a line
+-- terminator behind its opening quotation marks.
 abbrev pub literals : List Production
-literals = character (One (Except (APOSTROPHE ∷ BACKSLASH ∷ line_ends)) ∷ [])
+literals = character (One (Except (APOSTROPHE ∷ BACKSLASH ∷ line_terminators)) ∷ [])
     ∷ character (the BACKSLASH ∷ One simple_escape ∷ [])
     ∷ character (the BACKSLASH ∷ One octal_digit ∷ [])
     ∷ character (the BACKSLASH ∷ One octal_digit ∷ One octal_digit ∷ [])
@@ -272,7 +283,8 @@ literals = character (One (Except (APOSTROPHE ∷ BACKSLASH ∷ line_ends)) ∷ 
     ∷ (
       kind.TextBlock,
       text (QUOTATION_MARK ∷ QUOTATION_MARK ∷ QUOTATION_MARK ∷ [])
-          ++ (Many (any_of (SPACE ∷ TAB ∷ FORM_FEED ∷ [])) ∷ One (any_of line_ends) ∷ BlockTail Characters ∷ []),
+          ++ (Many (any_of (SPACE ∷ TAB ∷ FORM_FEED ∷ [])) ∷ One (any_of line_terminators)
+          ∷ BlockTail Characters ∷ []),
     ) ∷ []
 
 -- how a separator or an operator is written

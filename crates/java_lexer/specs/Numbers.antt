@@ -1,7 +1,10 @@
 -- What numbers stand for (JLS 3.10.1, 3.10.2).
-use Rattle.std.specs.Prelude.{ℕ, ◌+◌, ◌*◌, ◌-◌, ◌^◌, Bool, false, ◌||◌, not, ◌==◌, nat_lt, List, [], ◌∷◌, codes, slice_index, length, drop, Option, Some, None, if◌then◌else◌}
+use Rattle.std.specs.Prelude.{ℕ, ◌+◌, ◌*◌, ◌-◌, ◌^◌, Bool, false, ◌||◌, not, ◌==◌, nat_lt, List}
+use Rattle.std.specs.Prelude.{[], ◌∷◌, codes, slice_index, length, drop, filter, Option, Some}
+use Rattle.std.specs.Prelude.{None, if◌then◌else◌}
 use Rattle.std.specs.Char.{is_digit}
-use Rattle.java_text.specs.Source.{hex_digit}
+use Rattle.std.specs.Str.Parse.{digits_value}
+use Rattle.java_text.specs.Source.{hex_digit_value}
 use Rattle.java_token.specs.declared.token.LexLit.{LexLit}
 use Rattle.java_token.specs.declared.token.LexLit.TheVariants.{Int, Real}
 
@@ -25,31 +28,37 @@ radix units = let second = slice_index units 1 in
 abbrev pub digit_part : List ℕ → List ℕ
 digit_part units = if radix units == 16 || radix units == 2 then drop 2 units else units
 
--- the number with one more digit
-abbrev pub with_digit : ℕ → ℕ → Option ℕ → ℕ
-with_digit base n None = n
-with_digit base n (Some digit) = n * base + digit
-
--- the number with the digit that a unit is: an underscore and a suffix are none
-abbrev pub with_unit : ℕ → ℕ → ℕ → ℕ
-with_unit base n c = with_digit base n (hex_digit c)
-
--- the number that the digits spell, behind the number that is given
-unfoldable pub number_behind : ℕ → ℕ → List ℕ → ℕ
-number_behind base n [] = n
-number_behind base n (c ∷ units) = number_behind base (with_unit base n c) units
+-- the digits among these units: an underscore and a suffix are none
+abbrev pub digits_among : List ℕ → List ℕ
+digits_among units = filter (λ c. is_digit c 16) units
 
 -- the number, if 64 bits hold it
 abbrev pub small : ℕ → Option ℕ
 small n = if nat_lt n (2 ^ 64) then Some n else None
+
+-- the number that the digits among these units write in this radix, if 64 bits hold it
+unfoldable pub number_of : ℕ → List ℕ → Option ℕ
+number_of base units = small (digits_value base (digits_among units))
 
 -- a suffix L or l makes it long
 abbrev pub is_long : List ℕ → Bool
 is_long units = is_among (codes "lL") (last units)
 
 abbrev pub integer_of : List ℕ → LexLit
-integer_of units = Int (small (number_behind (radix units) 0 (digit_part units))) (radix units == 10) (is_long units)
+integer_of units =
+    Int (number_of (radix units) (digit_part units)) (radix units == 10) (is_long units)
 
 -- a suffix F or f makes it float, and without it it is double
 abbrev pub real_of : List ℕ → LexLit
 real_of units = Real (not (is_among (codes "fF") (last units)))
+
+-- ---- what private functions do that read a number: only their contracts cite it
+
+-- the number with one more digit, if there is one
+abbrev pub lengthened : ℕ → ℕ → Option ℕ → ℕ
+lengthened base n None = n
+lengthened base n (Some digit) = n * base + digit
+
+-- the number with the digit that a unit is, if it is one
+abbrev pub with_unit : ℕ → ℕ → ℕ → ℕ
+with_unit base n c = lengthened base n (hex_digit_value c)

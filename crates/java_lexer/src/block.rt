@@ -1,5 +1,6 @@
 //! Text blocks (JLS 3.10.6).
-ghost use Rattle.std.specs.Prelude.{◌≡◌, ◌≤◌, ◌+◌, ◌-◌, ◌==◌, ◌∷◌, ◌++◌, ℕ, List, IfOk, length, take, drop, min, false, if◌then◌else◌};
+ghost use Rattle.std.specs.Prelude.{◌≡◌, ◌≤◌, ◌+◌, ◌-◌, ◌==◌, ◌∷◌, ◌++◌, ℕ, List, IfOk, length};
+ghost use Rattle.std.specs.Prelude.{take, drop, min, false, if◌then◌else◌};
 ghost use Rattle.java_names.specs.ModifiedUtf8.{modified_utf8 as modified};
 ghost use Rattle.java_lexer.specs.Blocks as spec;
 
@@ -34,7 +35,8 @@ fn unify(alloc: Global, units: &[u16]) -> Result<Vec<u16>, Memory>
 
 /// Pushes the unit, unless it is the second of a line terminator, and says whether it is a CR.
 fn push_unified(unified: &mut Vec<u16>, unit: u16, after_return: bool) -> Result<bool, Memory>
-    ensures { IfOk result (λ after. (rest : List ℕ) → unified.new.items ++ spec.unified_from after rest
+    ensures { IfOk result
+        (λ after. (rest : List ℕ) → unified.new.items ++ spec.unified_from after rest
         ≡ unified.old.items ++ spec.unified_from after_return (unit ∷ rest)) }
 {
     if unit == LINE_FEED && after_return {
@@ -76,7 +78,8 @@ fn without_quotes(inner: &[u16]) -> &[u16]
 /// The line that begins at a place.
 fn line_at(content: &[u16], at: usize) -> &[u16]
     requires { at ≤ length content.now }
-    ensures line { result.now ≡ take (spec.line_length (drop at content.now)) (drop at content.now) }
+    ensures line { result.now
+        ≡ take (spec.line_length (drop at content.now)) (drop at content.now) }
     ensures length { length result.now ≡ spec.line_length (drop at content.now) }
     ensures within { at + length result.now ≤ length content.now }
 {
@@ -128,7 +131,8 @@ fn margin(content: &[u16]) -> usize
 
 /// The bound, or the indentation of the line if it is less and the line is not blank.
 fn bound_by(bound: usize, line: &[u16]) -> usize
-    ensures { result ≡ (if spec.is_blank line.now then bound else min bound (spec.indentation line.now)) }
+    ensures { result
+        ≡ (if spec.is_blank line.now then bound else min bound (spec.indentation line.now)) }
 {
     if is_blank(line) {
         bound
@@ -139,7 +143,8 @@ fn bound_by(bound: usize, line: &[u16]) -> usize
 
 /// The lines without their margin and their trailing white space.
 fn strip(alloc: Global, content: &[u16], width: usize) -> Result<Vec<u16>, Memory>
-    ensures { IfOk result (λ stripped. stripped.items ≡ spec.stripped width (spec.lines content.now)) }
+    ensures { IfOk result (λ stripped. stripped.items
+        ≡ spec.stripped width (spec.lines content.now)) }
 {
     let mut stripped = Vec::with_capacity(alloc, content.len())?;
     let mut at = 0;

@@ -1,5 +1,6 @@
 //! The pieces of a text (JLS 3.2, 3.4).
-ghost use Rattle.std.specs.Prelude.{◌≡◌, ◌≤◌, ◌<◌, ◌+◌, ◌^◌, ◌-◌, ◌++◌, ◌==◌, ◌||◌, ◌&&◌, not, if◌then◌else◌, IfOk, OnOk, length, take, drop};
+ghost use Rattle.std.specs.Prelude.{◌≡◌, ◌≤◌, ◌<◌, ◌+◌, ◌^◌, ◌-◌, ◌++◌, ◌==◌, ◌||◌, ◌&&◌, not};
+ghost use Rattle.std.specs.Prelude.{if◌then◌else◌, IfOk, OnOk, length, take, drop};
 ghost use Rattle.java_lexer.specs.Lexing.{line_ends};
 ghost use Rattle.java_lexer.specs.Tokens.{token_of};
 ghost use Rattle.java_lexer.specs.Cutting.{IsCut, ends_in_return, tokens_at};
@@ -71,7 +72,8 @@ fn push_token(
     piece: &[u16],
     line: u32,
 ) -> Result<(), Memory>
-    ensures { OnOk result (tokens.new.items ≡ tokens.old.items ++ tokens_at (token_of kind piece.now) line) }
+    ensures { OnOk result (tokens.new.items
+        ≡ tokens.old.items ++ tokens_at (token_of kind piece.now) line) }
 {
     if let Some(kind) = token(alloc, kind, piece)? {
         tokens.push(Token { kind, line })?;
@@ -105,7 +107,8 @@ impl Place {
     fn step(self, unit: u16) -> Place
         requires { self.line_ends < 2 ^ 64 - 1 }
         ensures ends { result.line_ends
-            ≡ (if unit == CARRIAGE_RETURN || (unit == LINE_FEED && not self.after_return) then 1 else 0) + self.line_ends }
+            ≡ (if unit == CARRIAGE_RETURN || (unit == LINE_FEED && not self.after_return) then 1
+            else 0) + self.line_ends }
         ensures last { result.after_return ≡ (unit == CARRIAGE_RETURN) }
         ensures bound { result.line_ends ≤ self.line_ends + 1 }
     {

@@ -37,8 +37,8 @@ pub fn unescape(alloc: Global, units: &[u16]) -> Result<Vec<u16>, Memory>
 }
 
 /// The units between the quotation marks.
-pub fn between(units: &[u16]) -> &[u16]
-    ensures { result.now ≡ spec.between units.now }
+pub fn between_quotes(units: &[u16]) -> &[u16]
+    ensures { result.now ≡ spec.between_quotes units.now }
 {
     if units.len() < 2 {
         &units[..0]
@@ -59,10 +59,11 @@ pub fn character(units: &[u16]) -> u16
     }
 }
 
-/// Pushes what the unit stands for, or the escape that it begins, and says how many of the units after
-/// it belong to it.
+/// Pushes what the unit stands for, or the escape that it begins, and says how many of the units
+/// after it belong to it.
 fn push_item(plain: &mut Vec<u16>, unit: u16, after: &[u16]) -> Result<usize, Memory>
-    ensures item { IfOk result (λ taken. (plain.new.items ≡ plain.old.items ++ (first_item unit after.now).0)
+    ensures item { IfOk result
+        (λ taken. (plain.new.items ≡ plain.old.items ++ (first_item unit after.now).0)
         × (drop taken after.now ≡ (first_item unit after.now).1)) }
     ensures few { IfOk result (λ taken. taken ≤ 3) }
 {
@@ -128,19 +129,19 @@ fn octal_value(units: &[u16]) -> u16
     ensures { result ≡ spec.octal_value units.now }
 {
     let length = octal_length(units);
-    let first = octal_digit(units, 0);
+    let first = octal_digit_value(units, 0);
     if length == 3 {
-        (first * 8 + octal_digit(units, 1)) * 8 + octal_digit(units, 2)
+        (first * 8 + octal_digit_value(units, 1)) * 8 + octal_digit_value(units, 2)
     } else if length == 2 {
-        first * 8 + octal_digit(units, 1)
+        first * 8 + octal_digit_value(units, 1)
     } else {
         first
     }
 }
 
-fn octal_digit(units: &[u16], place: usize) -> u16
+fn octal_digit_value(units: &[u16], place: usize) -> u16
     requires { spec.is_octal_digit (slice_index units.now place) ≡ true }
-    ensures value { result ≡ spec.octal_digit units.now place }
+    ensures value { result ≡ spec.octal_digit_value units.now place }
     ensures bound { result ≤ 7 }
 {
     at(units, place) - 0x30

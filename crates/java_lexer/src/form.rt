@@ -1,6 +1,9 @@
 //! How a piece that is no word goes on: a machine that takes one unit at a time.
 ghost use Rattle.std.specs.Prelude.{◌≡◌, ℕ, ◌<◌, ◌≤◌};
-ghost use Rattle.java_lexer.specs.Machine.{after_dot, after_operator as machine_after_operator, doubled, first_form, form_kind, next_form, next_operator, single_operator, with_equals_sign, with_greater_sign};
+ghost use Rattle.java_lexer.specs.Machine.{after_dot, after_operator as machine_after_operator};
+ghost use Rattle.java_lexer.specs.Machine.{doubled, first_form, form_kind, next_form};
+ghost use Rattle.java_lexer.specs.Machine.{next_operator, single_operator, with_equals_sign};
+ghost use Rattle.java_lexer.specs.Machine.{with_greater_sign};
 
 use crate::kind::Kind;
 use crate::number::Number;

@@ -4,7 +4,7 @@ ghost use Rattle.std.specs.Option.{SomeIff};
 ghost use Rattle.java_lexer.specs.Numbers as spec;
 
 use crate::units::at;
-use java_text::hex_digit;
+use java_text::hex_digit_value;
 use java_token::LexLit;
 
 /// The integer literal of these units (JLS 3.10.1).
@@ -76,7 +76,7 @@ fn digit_part(units: &[u16], radix: u64) -> &[u16]
 /// The number that the digits among the units spell, if 64 bits hold it.
 fn number(radix: u64, units: &[u16]) -> Option<u64>
     requires { 0 < radix }
-    ensures { result ≡ spec.small (spec.number_behind radix 0 units.now) }
+    ensures { result ≡ spec.number_of radix units.now }
 {
     let mut number: u64 = 0;
     for unit in units {
@@ -93,7 +93,7 @@ fn with_unit(number: u64, radix: u64, unit: u16) -> Option<u64>
     ensures { SomeIff result (spec.with_unit radix number unit < 2 ^ 64)
         (spec.with_unit radix number unit) }
 {
-    match hex_digit(unit) {
+    match hex_digit_value(unit) {
         Some(digit) => number.checked_mul(radix)?.checked_add(digit as u64),
         None => Some(number),
     }

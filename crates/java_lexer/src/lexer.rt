@@ -1,5 +1,6 @@
 //! A lexer takes the bytes of a source in any pieces.
-ghost use Rattle.std.specs.Prelude.{◌≡◌, ◌<◌, ◌+◌, ◌^◌, ◌++◌, [], Ok, Err, IfOk, IfErr, IsOkAnd, MatchResult, length, ℕ};
+ghost use Rattle.std.specs.Prelude.{◌≡◌, ◌<◌, ◌+◌, ◌^◌, ◌++◌, [], Ok, Err, IfOk, IfErr, IsOkAnd};
+ghost use Rattle.std.specs.Prelude.{MatchResult, length, ℕ};
 ghost use Rattle.java_lexer.specs.Lexing.{lexed};
 ghost use Rattle.java_lexer.specs.declared.fault.LexErr.{LexErr};
 ghost use Rattle.java_lexer.specs.declared.standing.Standing.TheVariants as standing;
@@ -25,7 +26,11 @@ impl Model for Lexer {
 
     ghost Value = { Fed };
 
-    ghost view = { λ lexer. record { fed = lexer.bytes.items; told = told_of lexer.standing lexer.bytes.items; standing = lexer.standing } };
+    ghost view = { λ lexer. record {
+      fed = lexer.bytes.items;
+      told = told_of lexer.standing lexer.bytes.items;
+      standing = lexer.standing;
+    } };
 }
 
 impl Lexer {
@@ -39,17 +44,21 @@ impl Lexer {
         }
     }
 
-    /// Takes the next bytes, and tells the tokens that are told so far. It may keep all of them for
-    /// `finish`.
+    /// Takes the next bytes, and tells the tokens that are told so far. It may keep all of them
+    /// for `finish`.
     pub fn feed(&mut self, alloc: Global, piece: &[u8]) -> Result<Vec<Token>, LexErr>
         requires { length self.old.fed + length piece.now < 2 ^ 32 }
-        ensures ok { self.old.standing ≡ standing.Open → IfOk result (λ tokens. self.new ≡ fed_more self.old piece.now tokens.items) }
+        ensures ok { self.old.standing ≡ standing.Open
+            → IfOk result (λ tokens. self.new ≡ fed_more self.old piece.now tokens.items) }
 
         // A fault comes only where no continuation has tokens.
-        ensures err { self.old.standing ≡ standing.Open → IfErr result (λ e. (self.new ≡ refused self.old e)
+        ensures err { self.old.standing ≡ standing.Open
+            → IfErr result (λ e. (self.new ≡ refused self.old e)
             × IfFault e (IsHopeless (self.old.fed ++ piece.now))) }
-        ensures refused { (e : LexErr) → self.old.standing ≡ standing.Refused e → (result ≡ Err e) × (self.new ≡ self.old) }
-        ensures finished { self.old.standing ≡ standing.Finished → IsOkAnd result (λ tokens. tokens.items ≡ []) × (self.new ≡ self.old) }
+        ensures refused { (e : LexErr) → self.old.standing ≡ standing.Refused e
+            → (result ≡ Err e) × (self.new ≡ self.old) }
+        ensures finished { self.old.standing ≡ standing.Finished
+            → IsOkAnd result (λ tokens. tokens.items ≡ []) × (self.new ≡ self.old) }
     {
         match self.standing {
             Standing::Refused(error) => Err(error),
@@ -69,14 +78,18 @@ impl Lexer {
         requires { length self.old.fed < 2 ^ 32 }
 
         // All tokens that were told are those of all bytes that were fed.
-        ensures ok { self.old.standing ≡ standing.Open → IfOk result (λ tokens. (lexed self.old.fed ≡ Ok (self.old.told ++ tokens.items))
+        ensures ok { self.old.standing ≡ standing.Open
+            → IfOk result (λ tokens. (lexed self.old.fed ≡ Ok (self.old.told ++ tokens.items))
             × (self.new ≡ finished self.old tokens.items)) }
 
         // A fault comes exactly where they have no tokens, and says why.
-        ensures err { self.old.standing ≡ standing.Open → IfErr result (λ e. (self.new ≡ refused self.old e)
+        ensures err { self.old.standing ≡ standing.Open
+            → IfErr result (λ e. (self.new ≡ refused self.old e)
             × IfFault e (λ f. lexed self.old.fed ≡ Err f)) }
-        ensures refused { (e : LexErr) → self.old.standing ≡ standing.Refused e → (result ≡ Err e) × (self.new ≡ self.old) }
-        ensures finished { self.old.standing ≡ standing.Finished → IsOkAnd result (λ tokens. tokens.items ≡ []) × (self.new ≡ self.old) }
+        ensures refused { (e : LexErr) → self.old.standing ≡ standing.Refused e
+            → (result ≡ Err e) × (self.new ≡ self.old) }
+        ensures finished { self.old.standing ≡ standing.Finished
+            → IsOkAnd result (λ tokens. tokens.items ≡ []) × (self.new ≡ self.old) }
     {
         match self.standing {
             Standing::Refused(error) => Err(error),
@@ -98,7 +111,8 @@ impl Lexer {
 /// The tokens of the bytes of a source (JLS chapter 3), or the line and the kind of its bad place.
 pub fn lex(alloc: Global, bytes: &[u8]) -> Result<Vec<Token>, LexErr>
     requires { length bytes.now < 2 ^ 32 }
-    ensures { MatchResult result (λ tokens. lexed bytes.now ≡ Ok tokens.items) (λ e. IfFault e (λ f. lexed bytes.now ≡ Err f)) }
+    ensures { MatchResult result (λ tokens. lexed bytes.now ≡ Ok tokens.items)
+        (λ e. IfFault e (λ f. lexed bytes.now ≡ Err f)) }
 {
     let SourceText { units, whole } = source_text(alloc, bytes)?;
     let Cut {

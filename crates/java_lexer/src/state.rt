@@ -110,7 +110,8 @@ fn is_low(unit: u16) -> bool
     unit >= 0xDC00 && unit < 0xE000
 }
 
-/// The character of a pair. Where `high` is no first unit of a pair, it takes its bits as if it were.
+/// The character of a pair. Where `high` is no first unit of a pair, it takes its bits as if it
+/// were.
 fn character(high: u16, low: u16) -> u32
     requires { is_low_surrogate low ≡ true }
     ensures { result ≡ surrogate_pair_char high low }
@@ -118,8 +119,8 @@ fn character(high: u16, low: u16) -> u32
     0x1_0000 + (high as u32).saturating_sub(0xD800) * 0x400 + (low as u32 - 0xDC00)
 }
 
-/// How far the longest piece reaches that the units from a place on complete from this state, and its kind;
-/// or else the piece before them.
+/// How far the longest piece reaches that the units from a place on complete from this state, and
+/// its kind; or else the piece before them.
 fn scan(
     start: State,
     from: usize,
@@ -170,21 +171,24 @@ pub fn piece_at(units: &[u16]) -> Option<(usize, Kind)>
 
 /// Whether a blank or a line feed stands at the front.
 fn begins_blank(units: &[u16]) -> bool
-    ensures piece { OnTrue result (machine_scan State.Start 0 None units.now ≡ Some (1, Kind.Blank)) }
+    ensures piece { OnTrue result (machine_scan State.Start 0 None units.now
+        ≡ Some (1, Kind.Blank)) }
     ensures room { OnTrue result (0 < length units.now) }
 {
     !units.is_empty() && is_blank(units[0])
 }
 
 fn is_blank(unit: u16) -> bool
-    ensures { OnTrue result (next_state State.Start unit ≡ Some (State.Other (Form.Closed Kind.Blank))) }
+    ensures { OnTrue result (next_state State.Start unit
+        ≡ Some (State.Other (Form.Closed Kind.Blank))) }
 {
     unit == b' ' as u16 || unit == b'\n' as u16
 }
 
 /// How many ASCII units the word at the front begins with, if there is one.
 fn ascii_word(units: &[u16]) -> usize
-    ensures value { 0 < result → machine_scan State.Word result (Some (result, Kind.Word)) (drop result units.now)
+    ensures value { 0 < result
+        → machine_scan State.Word result (Some (result, Kind.Word)) (drop result units.now)
         ≡ machine_scan State.Start 0 None units.now }
     ensures within { result ≤ length units.now }
 {

@@ -5,7 +5,7 @@ ghost use Rattle.java_lexer.specs.Escapes.{string_units};
 ghost use Rattle.java_lexer.specs.Tokens.{token_of, word_of};
 
 use crate::block::block_text;
-use crate::escape::{between, character, unescape};
+use crate::escape::{between_quotes, character, unescape};
 use crate::integer::{integer, real};
 use crate::keyword::keyword;
 use crate::kind::Kind;
@@ -43,6 +43,6 @@ fn word(alloc: Global, units: &[u16]) -> Result<TokenKind, Memory>
 fn string_text(alloc: Global, units: &[u16]) -> Result<Text, Memory>
     ensures { IfOk result (λ text. text ≡ modified (string_units units.now)) }
 {
-    let plain = unescape(alloc, between(units))?;
+    let plain = unescape(alloc, between_quotes(units))?;
     modified_utf8(alloc, plain.as_slice())
 }

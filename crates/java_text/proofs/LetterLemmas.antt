@@ -1,16 +1,11 @@
 -- The table's values for ASCII are those of the short tests.
-use Rattle.std.proofs.Common.{◌≡◌, ℕ, zero, suc, List, [], ◌∷◌, map, refl, ◌<◌, arith, inl, inr}
-use Rattle.std.proofs.lemmas.Bool.{cases_lt}
+use Rattle.std.proofs.Common.{◌≡◌, ℕ, map, refl, ◌<◌}
+use Rattle.lemmas.proofs.Tables.{below, same_below}
 use Rattle.ucd_table.specs.Rows.{value_in}
 use Rattle.unicode.specs.GeneralCategory.{general_category}
 use Rattle.ucd_category.specs.GeneralCategoryRows.{general_category_rows}
 use Rattle.java_text.specs.Letters.{is_start, is_part, is_white}
 use Rattle.java_text.specs.Ascii.{is_ascii_start, is_ascii_part, is_ascii_white}
-
--- the numbers below k, the greatest first
-abbrev pub below : ℕ → List ℕ
-below zero = []
-below (suc k) = k ∷ below k
 
 pub ascii_starts : map is_start (below 128) ≡ map is_ascii_start (below 128)
 unfolding is_start general_category value_in general_category_rows
@@ -19,14 +14,6 @@ ascii_starts = refl
 pub ascii_parts : map is_part (below 128) ≡ map is_ascii_part (below 128)
 unfolding is_part general_category value_in general_category_rows
 ascii_parts = refl
-
--- two functions with the same values below k are one there
-pub same_below : {A : Type 0} (f g : ℕ → A) (k c : ℕ) → map f (below k) ≡ map g (below k) → c < k → f c ≡ g c
-same_below f g zero c e h = absurd (omega arith)
-same_below f g (suc k) c e h = elim (cases_lt c k) [
-  | inl l ↦ same_below f g k c (cc) l
-  | inr l ↦ (let q : c ≡ k = omega arith in rw q (cc))
-]
 
 pub ascii_start : (c : ℕ) → c < 128 → is_start c ≡ is_ascii_start c
 ascii_start c h = same_below is_start is_ascii_start 128 c ascii_starts h

@@ -1,4 +1,5 @@
--- How translated units end, as far as the next one asks. Only contracts of private functions cite it.
+-- How translated units end, as far as the next one asks. Only contracts of private functions cite
+-- it.
 use Rattle.std.specs.Prelude.{◌≡◌, List, length, not, take_while}
 use Rattle.java_text.specs.declared.escape.Input.{Input}
 use Rattle.java_text.specs.declared.escape.Ending.{Ending}

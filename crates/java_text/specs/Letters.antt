@@ -4,7 +4,16 @@ use Rattle.std.specs.Str.{all_scalars}
 use Rattle.std.specs.Prelude.{[], ◌∷◌}
 use Rattle.unicode.specs.GeneralCategory.{general_category}
 use Rattle.ucd_category.specs.declared.GeneralCategory.{GeneralCategory}
-use Rattle.ucd_category.specs.declared.GeneralCategory.TheVariants.{UppercaseLetter, LowercaseLetter, TitlecaseLetter, ModifierLetter, OtherLetter, LetterNumber, CurrencySymbol, ConnectorPunctuation, DecimalNumber, NonspacingMark, SpacingMark, Format, SpaceSeparator, LineSeparator, ParagraphSeparator}
+use Rattle.ucd_category.specs.declared.GeneralCategory.TheVariants.{UppercaseLetter}
+use Rattle.ucd_category.specs.declared.GeneralCategory.TheVariants.{LowercaseLetter}
+use Rattle.ucd_category.specs.declared.GeneralCategory.TheVariants.{TitlecaseLetter}
+use Rattle.ucd_category.specs.declared.GeneralCategory.TheVariants.{ModifierLetter, OtherLetter}
+use Rattle.ucd_category.specs.declared.GeneralCategory.TheVariants.{LetterNumber, CurrencySymbol}
+use Rattle.ucd_category.specs.declared.GeneralCategory.TheVariants.{ConnectorPunctuation}
+use Rattle.ucd_category.specs.declared.GeneralCategory.TheVariants.{DecimalNumber, NonspacingMark}
+use Rattle.ucd_category.specs.declared.GeneralCategory.TheVariants.{SpacingMark, Format}
+use Rattle.ucd_category.specs.declared.GeneralCategory.TheVariants.{SpaceSeparator, LineSeparator}
+use Rattle.ucd_category.specs.declared.GeneralCategory.TheVariants.{ParagraphSeparator}
 
 -- letters, letter numbers, currency signs and connecting punctuation begin an identifier
 abbrev pub begins_name : GeneralCategory → Bool
@@ -28,7 +37,8 @@ goes_on category = begins_name category
 
 -- the control characters that an identifier may hold
 abbrev pub is_ignorable : ℕ → Bool
-is_ignorable c = nat_le c 0x08 || ((nat_le 0x0E c && nat_le c 0x1B) || (nat_le 0x7F c && nat_le c 0x9F))
+is_ignorable c =
+    nat_le c 0x08 || ((nat_le 0x0E c && nat_le c 0x1B) || (nat_le 0x7F c && nat_le c 0x9F))
 
 -- the code point is a character, and begins an identifier
 unfoldable pub is_start : ℕ → Bool
@@ -53,6 +63,9 @@ is_no_break c = c == 0xA0 || (c == 0x2007 || c == 0x202F)
 abbrev pub is_control_white : ℕ → Bool
 is_control_white c = (nat_le 0x09 c && nat_le c 0x0D) || (nat_le 0x1C c && nat_le c 0x1F)
 
--- the code point is a character, and white space where text blocks are stripped (JLS 3.10.6, String.stripIndent)
+-- the code point is a character, and white space where text blocks are stripped (JLS 3.10.6,
+-- String.stripIndent)
 unfoldable pub is_white : ℕ → Bool
-is_white c = all_scalars (c ∷ []) && ((separates (general_category c) && not (is_no_break c)) || is_control_white c)
+is_white c =
+    all_scalars (c ∷ [])
+    && ((separates (general_category c) && not (is_no_break c)) || is_control_white c)

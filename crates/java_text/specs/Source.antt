@@ -1,5 +1,7 @@
 -- The text of a source: from bytes to UTF-16 units (JLS 3.2, 3.3, 3.5).
-use Rattle.std.specs.Prelude.{ℕ, zero, suc, ◌+◌, ◌*◌, ◌-◌, Bool, true, false, ◌&&◌, ◌||◌, not, ◌==◌, nat_lt, List, [], ◌∷◌, length, map, take, drop, take_while, slice_index, Option, Some, None, if◌then◌else◌}
+use Rattle.std.specs.Prelude.{ℕ, zero, suc, ◌+◌, ◌*◌, ◌-◌, Bool, true, false, ◌&&◌, ◌||◌, not}
+use Rattle.std.specs.Prelude.{◌==◌, nat_lt, List, [], ◌∷◌, length, map, take, drop, take_while}
+use Rattle.std.specs.Prelude.{slice_index, Option, Some, None, if◌then◌else◌}
 use Rattle.std.specs.List.{flat_map}
 use Rattle.std.specs.Char.{is_digit, digit_value}
 use Rattle.std.specs.Str.{chars}
@@ -23,8 +25,8 @@ abbrev pub marker_length : List ℕ → ℕ
 marker_length units = length (take_while (λ c. c == LETTER_U) units)
 
 -- what a hexadecimal digit stands for
-abbrev pub hex_digit : ℕ → Option ℕ
-hex_digit c = if is_digit c 16 then Some (digit_value c) else None
+abbrev pub hex_digit_value : ℕ → Option ℕ
+hex_digit_value c = if is_digit c 16 then Some (digit_value c) else None
 
 -- the number with one more digit, if both are there
 abbrev pub with_digit : Option ℕ → Option ℕ → Option ℕ
@@ -34,16 +36,20 @@ with_digit _ _ = None
 -- what the four hexadecimal digits at the front indicate
 abbrev pub four_digits : List ℕ → Option ℕ
 four_digits (a ∷ b ∷ c ∷ d ∷ units) =
-    with_digit (with_digit (with_digit (hex_digit a) (hex_digit b)) (hex_digit c)) (hex_digit d)
+    with_digit (with_digit (with_digit (hex_digit_value a) (hex_digit_value b))
+    (hex_digit_value c))
+    (hex_digit_value d)
 four_digits units = None
 
--- what a backslash with these units behind it indicates, if it begins an escape: a marker and four digits
-unfoldable pub escape_value : List ℕ → Option ℕ
-escape_value units = if marker_length units == 0 then None else four_digits (drop (marker_length units) units)
+-- what a backslash with these units behind it indicates, if it begins an escape: a marker and four
+-- digits
+unfoldable pub unicode_escape_value : List ℕ → Option ℕ
+unicode_escape_value units =
+    if marker_length units == 0 then None else four_digits (drop (marker_length units) units)
 
 -- how many units behind its backslash an escape takes
-abbrev pub escape_length : List ℕ → ℕ
-escape_length units = marker_length units + 4
+abbrev pub unicode_escape_length : List ℕ → ℕ
+unicode_escape_length units = marker_length units + 4
 
 -- a unit that stands for itself, and one that an escape was translated to
 abbrev pub itself : ℕ → Input
@@ -63,21 +69,21 @@ abbrev pub is_even : ℕ → Bool
 is_even zero = true
 is_even (suc n) = not (is_even n)
 
--- A backslash is eligible to begin an escape behind what has resulted so far, the most recent first: where
--- the most recent unit was itself translated from an escape, or else where the backslashes right before it
--- are even in number, whether they come from escapes or not.
+-- A backslash is eligible to begin an escape behind what has resulted so far, the most recent
+-- first: where the most recent unit was itself translated from an escape, or else where the
+-- backslashes right before it are even in number, whether they come from escapes or not.
 abbrev pub is_eligible : List Input → Bool
 is_eligible recent = is_first_escaped recent || is_even (length (take_while is_backslash recent))
 
 -- what an eligible backslash gives, and the units that follow: an escape, or itself
 abbrev pub eligible_input : Option ℕ → List ℕ → Input × List ℕ
 eligible_input None units = (itself BACKSLASH, units)
-eligible_input (Some value) units = (indicated value, drop (escape_length units) units)
+eligible_input (Some value) units = (indicated value, drop (unicode_escape_length units) units)
 
 -- what the unit gives with which the rest of the text begins, and what follows then
 abbrev pub first_input : List Input → ℕ → List ℕ → Input × List ℕ
 first_input recent c units =
-    if c == BACKSLASH && is_eligible recent then eligible_input (escape_value units) units
+    if c == BACKSLASH && is_eligible recent then eligible_input (unicode_escape_value units) units
     else (itself c, units)
 
 -- what the units behind those that gave `recent` give, in at most n steps
@@ -97,7 +103,8 @@ translated units = map (λ (input : Input). input.unit) (inputs_behind [] units)
 
 -- a last U+001A is dropped (JLS 3.5)
 abbrev pub without_last_substitute : List ℕ → List ℕ
-without_last_substitute units = if nat_lt 0 (length units) && slice_index units (length units - 1) == SUBSTITUTE
+without_last_substitute units =
+    if nat_lt 0 (length units) && slice_index units (length units - 1) == SUBSTITUTE
     then take (length units - 1) units else units
 
 -- the text of the bytes, as UTF-16 units

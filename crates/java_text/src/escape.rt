@@ -1,9 +1,11 @@
 //! Unicode escapes (JLS 3.3).
-ghost use Rattle.std.specs.Prelude.{◌≡◌, ◌≤◌, ◌<◌, ◌^◌, ◌++◌, ◌∷◌, [], IfOk, List, length, drop, map, IfSome, MatchOption, OnSome, None, Some, true, false};
+ghost use Rattle.std.specs.Prelude.{◌≡◌, ◌≤◌, ◌<◌, ◌^◌, ◌++◌, ◌∷◌, [], IfOk, List, length, drop};
+ghost use Rattle.std.specs.Prelude.{map, IfSome, MatchOption, OnSome, None, Some, true, false};
 ghost use Rattle.java_text.specs.declared.escape.Input.{Input};
 ghost use Rattle.java_text.specs.Ending.{EndsSo};
 ghost use Rattle.java_text.specs.Source as spec;
-ghost use Rattle.java_text.specs.Source.{escape_length, escape_value, first_input, is_eligible, translated};
+ghost use Rattle.java_text.specs.Source.{unicode_escape_length, unicode_escape_value};
+ghost use Rattle.java_text.specs.Source.{first_input, is_eligible, translated};
 
 use crate::character::{BACKSLASH, LETTER_U};
 use hdr_core::Memory;
@@ -91,11 +93,13 @@ impl Ending {
     }
 }
 
-/// What the escape indicates that a backslash before these units begins, and how many of them belong to it.
+/// What the escape indicates that a backslash before these units begins, and how many of them
+/// belong to it.
 fn escape(after: &[u16]) -> Option<(u16, usize)>
-    ensures value { MatchOption result (escape_value after.now ≡ None)
-        (λ found. (escape_value after.now ≡ Some found.0) × (found.1 ≡ escape_length after.now)) }
-    ensures within { OnSome result (escape_length after.now ≤ length after.now) }
+    ensures value { MatchOption result (unicode_escape_value after.now ≡ None)
+        (λ found. (unicode_escape_value after.now ≡ Some found.0)
+        × (found.1 ≡ unicode_escape_length after.now)) }
+    ensures within { OnSome result (unicode_escape_length after.now ≤ length after.now) }
 {
     let marker = marker_length(after);
     if marker == 0 {
@@ -121,15 +125,15 @@ fn four_digits(units: &[u16]) -> Option<u16>
     let [a, b, c, d, ..] = units else {
         return None;
     };
-    let high = hex_digit(*a)? * 16 + hex_digit(*b)?;
-    let low = hex_digit(*c)? * 16 + hex_digit(*d)?;
+    let high = hex_digit_value(*a)? * 16 + hex_digit_value(*b)?;
+    let low = hex_digit_value(*c)? * 16 + hex_digit_value(*d)?;
     Some(high * 256 + low)
 }
 
 /// What a hexadecimal digit stands for.
 #[inline]
-pub fn hex_digit(unit: u16) -> Option<u16>
-    ensures value { result ≡ spec.hex_digit unit }
+pub fn hex_digit_value(unit: u16) -> Option<u16>
+    ensures value { result ≡ spec.hex_digit_value unit }
     ensures bound { IfSome result (λ digit. digit < 16) }
 {
     let digit = char::from_u32(unit as u32)?.to_digit(16)?;

@@ -11,7 +11,7 @@ pub use character::{
     APOSTROPHE, ASTERISK, BACKSLASH, CARRIAGE_RETURN, FORM_FEED, LINE_FEED, LOW_LINE,
     QUOTATION_MARK, SLASH, SPACE, TAB,
 };
-pub use escape::hex_digit;
+pub use escape::hex_digit_value;
 pub use letter::{begins_identifier, continues_identifier};
 pub use source::{SourceText, source_text};
 pub use white::is_white;

@@ -26,7 +26,8 @@ pub fn source_text(alloc: Global, bytes: &[u8]) -> Result<SourceText, Memory>
     ensures text { IfOk result (λ source. source.units.items ≡ text_of bytes.now) }
     ensures whole { IfOk result (λ source. source.whole ≡ is_all_utf8 bytes.now) }
     // There are no more units than bytes, and fewer where a byte is no UTF-8.
-    ensures room { IfOk result (λ source. length source.units.items + (if source.whole then 0 else 1) ≤ length bytes.now) }
+    ensures room { IfOk result
+        (λ source. length source.units.items + (if source.whole then 0 else 1) ≤ length bytes.now) }
 {
     let text = longest_utf8(bytes);
     let whole = text.len() == bytes.len();

@@ -5,8 +5,8 @@ use segments::{SegEnd, SegErr, Segment, segments};
 use std::alloc::Global;
 use std::process::Abort;
 
-/// Each list, and its segments: `~` ends a tail, `%` and a line a skipped group, and a class body stands between
-/// `<<` and `>>`. A `/` begins the next line.
+/// Each list, and its segments: `~` ends a tail, `%` and a line a skipped group, and a class body
+/// stands between `<<` and `>>`. A `/` begins the next line.
 const CUTS: [(&str, &str); 51] = [
     // what a body, an initialiser and an annotation element's default keep
     (

@@ -1,4 +1,6 @@
-//! Examples of source texts, of tokens and of how they are cut into segments: the tests of java_token, java_text, java_lexer and segments, in a crate of their own, so that the proofs of those are checked once.
+//! Examples of source texts, of tokens and of how they are cut into segments: the tests of
+//! java_token, java_text, java_lexer and segments, in a crate of their own, so that the proofs of
+//! those are checked once.
 #![tactic(auto)]
 
 #[cfg(test)]

@@ -1,9 +1,10 @@
 //! Texts and their tokens, by the rules and examples of JLS chapter 3.
 
-/// A text, and what is told of it. A token stands behind `@` and its line where that is not the line of the
-/// token before. A word stands for itself; `<Class>` is a keyword, `:Dot` a separator or an operator; `7` is
-/// a decimal integer, `x7` another, `7L` a long one, and `?` one above 64 bits; `~double` is a
-/// floating-point literal, `'97` a character, `"a"` a string. `!2 Utf8` is a fault on line 2.
+/// A text, and what is told of it. A token stands behind `@` and its line where that is not the
+/// line of the token before. A word stands for itself; `<Class>` is a keyword, `:Dot` a separator
+/// or an operator; `7` is a decimal integer, `x7` another, `7L` a long one, and `?` one above 64
+/// bits; `~double` is a floating-point literal, `'97` a character, `"a"` a string. `!2 Utf8` is a
+/// fault on line 2.
 pub type Row = (&'static str, &'static str);
 
 pub const WORDS_AND_SPACES: [Row; 64] = [
@@ -415,8 +416,8 @@ pub const EXAMPLES: [Row; 42] = [
     ),
 ];
 
-/// Backslashes before Unicode escapes are counted in what was translated so far, and one right behind an
-/// escape begins another (JLS 3.3).
+/// Backslashes before Unicode escapes are counted in what was translated so far, and one right
+/// behind an escape begins another (JLS 3.3).
 pub const UNICODE_ESCAPES: [Row; 9] = [
     ("\"\\u005c\\\\u006e\"", "\"\\x5Cn\""),
     ("\"\\u005c\\\\\\u0022u\"", "\"\\x5C\\x5Cu0022u\""),

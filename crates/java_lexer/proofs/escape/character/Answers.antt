@@ -6,4 +6,6 @@ use Rattle.java_lexer.proofs.escape.character.Goals as goal
 
 pub returns-then-units-ge2 : goal.returns-then-units-ge2
 returns-then-units-ge2 c = (simp take_rest at c.escape_value.ensures)
-    ∙ sym (ap (λ b. if b then escape_value (drop 2 c.args.units.now) else slice_index c.args.units.now 1) (eq-eqb _ 92 (sym c.at-first.ensures ∙ c.if-first-eq-BACKSLASH.true)))
+    ∙ sym (ap (λ b. if b then escape_value (drop 2 c.args.units.now)
+    else slice_index c.args.units.now 1)
+    (eq-eqb _ 92 (sym c.at-first.ensures ∙ c.if-first-eq-BACKSLASH.true)))

@@ -1,8 +1,8 @@
 use Rattle.std.proofs.Common.{◌∙◌, ◌++◌, ◌+◌, sym, ap, drop}
 use Rattle.std.specs.List.{concat}
-use Rattle.std.proofs.lemmas.List.{take_rest}
+use Rattle.std.proofs.lemmas.List.{take_rest, drop_more}
 use Rattle.java_lexer.specs.Escapes.{items_of}
-use Rattle.java_lexer.proofs.EscapeLemmas.{opened, pushed, further, ended}
+use Rattle.java_lexer.proofs.EscapeLemmas.{pushed, further, ended}
 use Rattle.java_lexer.proofs.escape.unescape.Goals as goal
 
 pub loop-at-preserved : goal.loop-at-preserved
@@ -12,7 +12,8 @@ loop-at-preserved c =
     let item = simp take_rest at c.in_ok-taken.ensures.item in
     rw (further at c.in_ok-taken.taken units) (
     pushed _ (drop (at + 1) units) _ c.loop-at.plain.items _ item.0 item.1
-    ∙ ap (λ t. c.loop-at.plain.items ++ concat (items_of t)) (sym (opened at units c.loop-at-test.true))
+    ∙ ap (λ t. c.loop-at.plain.items ++ concat (items_of t))
+    (sym (drop_more units at 0 c.loop-at-test.true))
     ∙ c.loop-at.invariant)
 
 pub returns : goal.returns

@@ -11,4 +11,5 @@ loop-text-preserved c = not_here _ _ c.args.entries.now c.args.word.now c.loop-t
     (sym (rw c.as_bytes.ensures.value at c.eq.ensures) ∙ c.if-eq.false) ∙ c.loop-text.invariant
 
 pub returns : goal.returns
-returns c = none_left _ c.args.entries.now c.args.word.now c.loop-text-test.false ∙ c.loop-text.invariant
+returns c = none_left _ c.args.entries.now c.args.word.now c.loop-text-test.false
+    ∙ c.loop-text.invariant

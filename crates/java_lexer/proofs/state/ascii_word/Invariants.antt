@@ -7,7 +7,8 @@ use Rattle.java_lexer.proofs.state.ascii_word.Given as goal
 -- the word so far, and the scan of what is left
 abbrev pub invariant-loop-end : goal.invariant-loop-end
 invariant-loop-end l = record {
-  answer : scan state.Word l.end (Some (l.end, kind.Word)) (drop l.end l.units) ≡ scan state.Start 0 None l.units;
+  answer : scan state.Word l.end (Some (l.end, kind.Word)) (drop l.end l.units)
+      ≡ scan state.Start 0 None l.units;
   within : l.end ≤ length l.units;
 }
 

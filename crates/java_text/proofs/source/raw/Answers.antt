@@ -9,9 +9,11 @@ loop-character-preserved c =
     let held = c.loop-character.invariant in
     let parts = c.in-Some.ensures.steps.0 in (
       IsUtf8-past_char _ _ c.in-Some.character held.0 parts,
-      rw (c.in_ok-push_character.ensures, append_assoc) (rw (chars_past_char _ _ c.in-Some.character held.0 parts) at held.1),
+      rw (c.in_ok-push_character.ensures, append_assoc)
+          (rw (chars_past_char _ _ c.in-Some.character held.0 parts) at held.1),
     )
 
 pub returns : goal.returns
-returns c = let e : chars_rest c.loop-character.character-iterator ≡ [] = nil_from_length _ c.in-None.ensures.steps.0.0 in
+returns c = let e : chars_rest c.loop-character.character-iterator ≡ [] =
+    nil_from_length _ c.in-None.ensures.steps.0.0 in
     sym (append-nil _) ∙ (rw (e, chars-nil) at c.loop-character.invariant.1)

@@ -8,4 +8,5 @@ use Rattle.java_text.proofs.source.raw.Given as goal
 -- what has been gone over, and then what is left
 abbrev pub invariant-loop-character : goal.invariant-loop-character
 invariant-loop-character l = IsUtf8 (chars_rest l.character-iterator)
-    × (l.units.items ++ flat_map encode_utf16 (chars (chars_rest l.character-iterator)) ≡ flat_map encode_utf16 (chars l.text))
+    × (l.units.items ++ flat_map encode_utf16 (chars (chars_rest l.character-iterator))
+    ≡ flat_map encode_utf16 (chars l.text))
