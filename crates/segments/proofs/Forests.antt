@@ -1,5 +1,6 @@
 -- Lists of tokens whose brackets pair, as forests of groups.
-use Rattle.std.proofs.Common.{◌≡◌, refl, sym, ◌∙◌, ap, Bool, true, false, List, [], ◌∷◌, ◌++◌, append_assoc, map}
+use Rattle.std.proofs.Common.{◌≡◌, refl, sym, ◌∙◌, ap, Bool, true, false, List, [], ◌∷◌, ◌++◌}
+use Rattle.std.proofs.Common.{append_assoc, map}
 use Rattle.java_token.specs.declared.token.Token.{Token}
 use Rattle.segments.specs.declared.bracket.Pair.{Pair}
 use Rattle.segments.specs.declared.bracket.Pair.TheVariants.{Parentheses, Brackets, Braces}
@@ -11,7 +12,8 @@ use Rattle.segments.proofs.Unpaired.{Bracket, bracket_of, is_closed_by, unpaired
 pub data Forest : Type 0 where
   Nothing : Forest
   Single : (t : Token) → mark_of t ≡ Plain → Forest → Forest
-  Group : (p : Pair) (o : Token) → mark_of o ≡ Opening p → Forest → (c : Token) → mark_of c ≡ Closing p → Forest → Forest
+  Group : (p : Pair) (o : Token) → mark_of o ≡ Opening p → Forest → (c : Token)
+      → mark_of c ≡ Closing p → Forest → Forest
 
 abbrev pub flat : Forest → List Token
 flat Nothing = []
@@ -51,8 +53,10 @@ closes_own p (Closing q) e = ap Closing (sym (pair_of_same p q e))
 closes_own p Plain e = cc
 
 -- an opening bracket in front of what is spread
-opening : (t : Token) (p : Pair) (tokens : List Token) → mark_of t ≡ Opening p → (f : Forest) (rest : List (Token × Forest))
-    → left_out rest ≡ unpaired (map bracket_of tokens) → flat f ++ spelt rest ≡ tokens → Spread (t ∷ tokens)
+opening : (t : Token) (p : Pair) (tokens : List Token) → mark_of t ≡ Opening p
+    → (f : Forest) (rest : List (Token × Forest))
+    → left_out rest ≡ unpaired (map bracket_of tokens) → flat f ++ spelt rest ≡ tokens
+    → Spread (t ∷ tokens)
 opening t p tokens e f [] left parts = record {
   front = Nothing;
   rest = (t, f) ∷ [];

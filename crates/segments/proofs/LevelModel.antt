@@ -1,5 +1,6 @@
 -- The cutter, with each level at the bracket of the class body that it is outside of.
-use Rattle.std.proofs.Common.{ℕ, false, ◌-◌, ◌==◌, if◌then◌else◌, List, [], ◌∷◌, ◌++◌, Option, Some, None, Result, Ok, Err}
+use Rattle.std.proofs.Common.{ℕ, false, ◌-◌, ◌==◌, if◌then◌else◌, List, [], ◌∷◌, ◌++◌, Option}
+use Rattle.std.proofs.Common.{Some, None, Result, Ok, Err}
 use Rattle.java_token.specs.declared.token.Token.{Token}
 use Rattle.segments.specs.declared.bracket.Mark.{Mark}
 use Rattle.segments.specs.declared.bracket.Mark.TheVariants.{Opening, Closing, Plain}
@@ -14,7 +15,7 @@ use Rattle.segments.specs.declared.cutter.Place.{Place}
 use Rattle.segments.specs.declared.cutter.Place.TheVariants as place
 use Rattle.segments.specs.Brackets.{mark_of, same_pair}
 use Rattle.segments.specs.Cut.{is_class_head}
-use Rattle.segments.specs.Stack.{top, below}
+use Rattle.hdr_core.specs.Stack.{top, below}
 use Rattle.segments.specs.Levels.{fresh, stored, ended, segments_of}
 use Rattle.segments.specs.Steps.{plain_at, place_in, is_ending, or_else, first_line_or}
 use Rattle.segments.proofs.GroupKinds as group
@@ -43,20 +44,26 @@ abbrev pub entry : Pair → Token → Kind → Open
 entry pair token group = record { pair = pair; line = token.line; group = group }
 
 abbrev pub noted : Cutter → Pair → Token → Kind → Cutter
-noted cutter pair token group = record cutter { brackets = cutter.brackets ++ entry pair token group ∷ [] }
+noted cutter pair token group =
+    record cutter { brackets = cutter.brackets ++ entry pair token group ∷ [] }
 
 abbrev pub skipping : Cutter → Token → Cutter
 skipping cutter token = record (noted cutter Braces token group.Skipped) { place = place.Hidden }
 
 abbrev pub noted_deep : Cutter → Token → Cutter
-noted_deep cutter token = record cutter { deep = or_else cutter.deep (first_line_or cutter.level.head token) }
+noted_deep cutter token =
+    record cutter { deep = or_else cutter.deep (first_line_or cutter.level.head token) }
 
 abbrev pub body : Cutter → Token → Cutter
-body cutter token = record (noted cutter Braces token (group.Body cutter.level)) { level = fresh (cutter.level.left - 1) }
+body cutter token =
+    record
+    (noted cutter Braces token (group.Body cutter.level)) { level = fresh (cutter.level.left - 1) }
 
 abbrev pub ending : Cutter → Token → Cutter
 ending cutter token =
-    if is_class_head cutter.level.head then (if cutter.level.left == 0 then skipping (noted_deep cutter token) token else body cutter token)
+    if is_class_head cutter.level.head
+    then (if cutter.level.left == 0 then skipping (noted_deep cutter token) token
+    else body cutter token)
     else skipping cutter token
 
 abbrev pub behind_default : Cutter → Cutter
@@ -64,11 +71,15 @@ behind_default cutter = record cutter { level = record cutter.level { is_behind_
 
 abbrev pub opened_in_head : Cutter → Pair → Token → Kind → Cutter
 opened_in_head cutter pair token group =
-    record (noted cutter pair token group) { level = stored cutter.level token; place = place_in pair cutter.level.is_assigned }
+    record (noted cutter pair token group) {
+      level = stored cutter.level token;
+      place = place_in pair cutter.level.is_assigned;
+    }
 
 abbrev pub opened_at : Place → Cutter → Pair → Token → Cutter
 opened_at place.Outside cutter pair token =
-    if is_ending pair cutter.level then ending cutter token else opened_in_head (behind_default cutter) pair token group.Outer
+    if is_ending pair cutter.level then ending cutter token
+    else opened_in_head (behind_default cutter) pair token group.Outer
 opened_at place.Inside cutter pair token = opened_in_head cutter pair token group.Inner
 opened_at place.Hidden cutter pair token = noted cutter pair token group.Hidden
 
@@ -78,19 +89,25 @@ opened cutter pair token = opened_at cutter.place cutter pair token
 -- ---- closing brackets
 
 abbrev pub closed_group : Kind → ℕ → Cutter → Token → Cutter
-closed_group group.Outer line cutter token = record cutter { level = stored cutter.level token; place = place.Outside }
-closed_group group.Inner line cutter token = record cutter { level = stored cutter.level token; place = place.Inside }
+closed_group group.Outer line cutter token =
+    record cutter { level = stored cutter.level token; place = place.Outside }
+closed_group group.Inner line cutter token =
+    record cutter { level = stored cutter.level token; place = place.Inside }
 closed_group group.Hidden line cutter token = cutter
-closed_group group.Skipped line cutter token = record cutter { level = ended cutter.level (Skipped line); place = place.Outside }
-closed_group (group.Body outer) line cutter token = record cutter { level = ended outer (Body (segments_of cutter.level)) }
+closed_group group.Skipped line cutter token =
+    record cutter { level = ended cutter.level (Skipped line); place = place.Outside }
+closed_group (group.Body outer) line cutter token =
+    record cutter { level = ended outer (Body (segments_of cutter.level)) }
 
 abbrev pub closed_by : Option Open → Cutter → Pair → Token → Cutter
 closed_by None cutter pair token = record cutter { wrong = Some token.line }
 closed_by (Some bracket) cutter pair token =
-    if same_pair bracket.pair pair then closed_group bracket.group bracket.line cutter token else record cutter { wrong = Some token.line }
+    if same_pair bracket.pair pair then closed_group bracket.group bracket.line cutter token
+    else record cutter { wrong = Some token.line }
 
 abbrev pub closed : Cutter → Pair → Token → Cutter
-closed cutter pair token = closed_by (top cutter.brackets) (record cutter { brackets = below cutter.brackets }) pair token
+closed cutter pair token =
+    closed_by (top cutter.brackets) (record cutter { brackets = below cutter.brackets }) pair token
 
 -- ---- a step
 
@@ -107,7 +124,8 @@ unfoldable pub step : Cutter → Token → Cutter
 step cutter token = unless cutter.wrong cutter (step_by (mark_of token) cutter token)
 
 unfoldable pub start : ℕ → Cutter
-start most = record { level = fresh most; brackets = []; place = place.Outside; deep = None; wrong = None }
+start most =
+    record { level = fresh most; brackets = []; place = place.Outside; deep = None; wrong = None }
 
 abbrev pub run : Cutter → List Token → Cutter
 run cutter [] = cutter

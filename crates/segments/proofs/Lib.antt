@@ -1,7 +1,7 @@
-pub mod Stacks
 pub mod ClassHeads
 pub mod Unpaired
 pub mod Parts
+pub mod Ends
 pub mod Forests
 pub mod Pieces
 pub mod Alone

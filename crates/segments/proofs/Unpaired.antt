@@ -24,10 +24,11 @@ in_front Plain line left = left
 in_front (Closing pair) line left = record { mark = Closing pair; line = line } ∷ left
 in_front (Opening pair) line [] = record { mark = Opening pair; line = line } ∷ []
 in_front (Opening pair) line (next ∷ left) =
-    if is_closed_by pair next.mark then left else record { mark = Opening pair; line = line } ∷ next ∷ left
+    if is_closed_by pair next.mark then left
+    else record { mark = Opening pair; line = line } ∷ next ∷ left
 
--- the brackets that are left when each opening one right before a closing one of its pair is taken out
--- together with that, until there are no two such
+-- the brackets that are left when each opening one right before a closing one of its pair is taken
+-- out together with that, until there are no two such
 abbrev pub unpaired : List Bracket → List Bracket
 unpaired [] = []
 unpaired (b ∷ bs) = in_front b.mark b.line (unpaired bs)
@@ -39,4 +40,5 @@ first_line (b ∷ bs) = Some b.line
 -- the line of the first closing one, else of the first one
 abbrev pub first_wrong : List Bracket → Option ℕ → Option ℕ
 first_wrong [] otherwise = otherwise
-first_wrong (b ∷ bs) otherwise = if is_closing b.mark then Some b.line else first_wrong bs otherwise
+first_wrong (b ∷ bs) otherwise = if is_closing b.mark then Some b.line
+    else first_wrong bs otherwise

@@ -1,5 +1,6 @@
 -- Brackets that don't pair.
-use Rattle.std.proofs.Common.{◌≡◌, refl, sym, ◌∙◌, ap, ℕ, Bool, true, false, ◌==◌, cond, List, [], ◌∷◌, ◌++◌, append-nil, map, Option, Some, ◌⊎◌, inl, inr}
+use Rattle.std.proofs.Common.{◌≡◌, refl, sym, ◌∙◌, ap, ℕ, Bool, true, false, ◌==◌, cond, List, []}
+use Rattle.std.proofs.Common.{◌∷◌, ◌++◌, append-nil, map, Option, Some, ◌⊎◌, inl, inr}
 use Rattle.java_token.specs.declared.token.Token.{Token}
 use Rattle.segments.specs.declared.bracket.Pair.{Pair}
 use Rattle.segments.specs.declared.bracket.Pair.TheVariants.{Braces}
@@ -13,13 +14,16 @@ use Rattle.segments.specs.declared.cutter.Place.TheVariants as place
 use Rattle.segments.proofs.GroupKinds as group
 use Rattle.segments.proofs.GroupKinds.{Kind}
 use Rattle.segments.specs.Brackets.{mark_of, same_pair}
-use Rattle.segments.proofs.Unpaired.{Bracket, bracket_of, in_front, unpaired, first_line, first_wrong}
+use Rattle.segments.proofs.Unpaired.{Bracket, bracket_of, in_front, unpaired, first_line}
+use Rattle.segments.proofs.Unpaired.{first_wrong}
 use Rattle.segments.specs.Cut.{is_class_head}
-use Rattle.segments.specs.Stack.{top, below}
+use Rattle.hdr_core.specs.Stack.{top, below}
 use Rattle.segments.specs.Levels.{stored}
 use Rattle.segments.specs.Steps.{plain_at, place_in, is_ending, or_else, first_line_or}
-use Rattle.segments.proofs.LevelModel.{entry, noted_deep, skipping, body, ending, behind_default, opened_in_head, opened, closed_group, closed_by, unless, step, step_by, run}
-use Rattle.segments.proofs.Stacks.{top_end, below_end}
+use Rattle.segments.proofs.LevelModel.{entry, noted_deep, skipping, body, ending, behind_default}
+use Rattle.segments.proofs.LevelModel.{opened_in_head, opened, closed_group, closed_by, unless}
+use Rattle.segments.proofs.LevelModel.{step, step_by, run}
+use Rattle.hdr_core.proofs.Stacks.{top_end, below_end}
 use Rattle.segments.proofs.Running.{at, step_plain, step_opening}
 use Rattle.segments.proofs.Outside.{either, ending_braces}
 
@@ -32,7 +36,8 @@ abbrev pub marks : List Open → List Bracket
 marks [] = []
 marks (o ∷ os) = bracket o.pair o.line ∷ marks os
 
-pub marks_end : (os : List Open) (o : Open) (rest : List Bracket) → marks (os ++ o ∷ []) ++ rest ≡ marks os ++ bracket o.pair o.line ∷ rest
+pub marks_end : (os : List Open) (o : Open) (rest : List Bracket)
+    → marks (os ++ o ∷ []) ++ rest ≡ marks os ++ bracket o.pair o.line ∷ rest
 marks_end [] o rest = refl
 marks_end (x ∷ os) o rest = ap (λ l. bracket x.pair x.line ∷ l) (marks_end os o rest)
 
@@ -41,19 +46,24 @@ openings_stay [] = refl
 openings_stay (o ∷ []) = refl
 openings_stay (o ∷ x ∷ os) = ap (λ l. in_front (Opening o.pair) o.line l) (openings_stay (x ∷ os))
 
-pub no_closing : (os : List Open) (rest : List Bracket) (otherwise : Option ℕ) → first_wrong (marks os ++ rest) otherwise ≡ first_wrong rest otherwise
+pub no_closing : (os : List Open) (rest : List Bracket) (otherwise : Option ℕ)
+    → first_wrong (marks os ++ rest) otherwise ≡ first_wrong rest otherwise
 no_closing [] rest otherwise = refl
 no_closing (o ∷ os) rest otherwise = no_closing os rest otherwise
 
-pub same_behind : (xs ys zs : List Bracket) → unpaired ys ≡ unpaired zs → unpaired (xs ++ ys) ≡ unpaired (xs ++ zs)
+pub same_behind : (xs ys zs : List Bracket) → unpaired ys ≡ unpaired zs
+    → unpaired (xs ++ ys) ≡ unpaired (xs ++ zs)
 same_behind [] ys zs e = e
 same_behind (x ∷ xs) ys zs e = ap (in_front x.mark x.line) (same_behind xs ys zs e)
 
 -- opening brackets in front of one that is left
-stay_behind : (os : List Open) (p : Pair) (line : ℕ) (zs rest : List Bracket) → unpaired zs ≡ bracket p line ∷ rest → unpaired (marks os ++ zs) ≡ marks os ++ bracket p line ∷ rest
+stay_behind : (os : List Open) (p : Pair) (line : ℕ) (zs rest : List Bracket)
+    → unpaired zs ≡ bracket p line ∷ rest
+    → unpaired (marks os ++ zs) ≡ marks os ++ bracket p line ∷ rest
 stay_behind [] p line zs rest e = e
 stay_behind (o ∷ []) p line zs rest e = ap (in_front (Opening o.pair) o.line) e
-stay_behind (o ∷ x ∷ os) p line zs rest e = ap (in_front (Opening o.pair) o.line) (stay_behind (x ∷ os) p line zs rest e)
+stay_behind (o ∷ x ∷ os) p line zs rest e =
+    ap (in_front (Opening o.pair) o.line) (stay_behind (x ∷ os) p line zs rest e)
 
 -- ---- steps
 
@@ -64,18 +74,21 @@ record Noted (c : Cutter) (bs : List Open) (p : Pair) (t : Token) : Type 0 where
   kind : Kind
   is : c ≡ at level (bs ++ entry p t kind ∷ []) where_ deep
 
-note_ending : (l : Level) (bs : List Open) (d : Option ℕ) (p : Pair) (t : Token) → p ≡ Braces → Noted (ending (at l bs place.Outside d) t) bs p t
+note_ending : (l : Level) (bs : List Open) (d : Option ℕ) (p : Pair) (t : Token) → p ≡ Braces
+    → Noted (ending (at l bs place.Outside d) t) bs p t
 note_ending l bs d p t braces = by (is_class_head l.head) refl (l.left == 0) refl where
   st : Cutter
   st = at l bs place.Outside d
 
-  by : (b : Bool) → is_class_head l.head ≡ b → (z : Bool) → (l.left == 0) ≡ z → Noted (ending st t) bs p t
+  by : (b : Bool) → is_class_head l.head ≡ b → (z : Bool) → (l.left == 0) ≡ z
+      → Noted (ending st t) bs p t
   by false e z f = record {
     level = l;
     where_ = place.Hidden;
     deep = d;
     kind = group.Skipped;
-    is = ap (λ x. cond x (cond (l.left == 0) (skipping (noted_deep st t) t) (body st t)) (skipping st t)) e
+    is = ap (λ x. cond x (cond (l.left == 0) (skipping (noted_deep st t) t) (body st t))
+        (skipping st t)) e
         ∙ ap (λ q. at l (bs ++ entry q t group.Skipped ∷ []) place.Hidden d) (sym braces);
   }
   by true e true f = record {
@@ -83,23 +96,36 @@ note_ending l bs d p t braces = by (is_class_head l.head) refl (l.left == 0) ref
     where_ = place.Hidden;
     deep = or_else d (first_line_or l.head t);
     kind = group.Skipped;
-    is = ap (λ x. cond x (cond (l.left == 0) (skipping (noted_deep st t) t) (body st t)) (skipping st t)) e
+    is = ap (λ x. cond x (cond (l.left == 0) (skipping (noted_deep st t) t) (body st t))
+        (skipping st t)) e
         ∙ ap (λ x. cond x (skipping (noted_deep st t) t) (body st t)) f
-        ∙ ap (λ q. at l (bs ++ entry q t group.Skipped ∷ []) place.Hidden (or_else d (first_line_or l.head t))) (sym braces);
+        ∙ ap (λ q. at l (bs ++ entry q t group.Skipped ∷ []) place.Hidden
+        (or_else d (first_line_or l.head t))) (sym braces);
   }
   by true e false f = record {
     level = (body st t).level;
     where_ = place.Outside;
     deep = d;
     kind = group.Body l;
-    is = ap (λ x. cond x (cond (l.left == 0) (skipping (noted_deep st t) t) (body st t)) (skipping st t)) e
+    is = ap (λ x. cond x (cond (l.left == 0) (skipping (noted_deep st t) t) (body st t))
+        (skipping st t)) e
         ∙ ap (λ x. cond x (skipping (noted_deep st t) t) (body st t)) f
-        ∙ ap (λ q. at (body st t).level (bs ++ entry q t (group.Body l) ∷ []) place.Outside d) (sym braces);
+        ∙ ap (λ q. at (body st t).level (bs ++ entry q t (group.Body l) ∷ []) place.Outside d)
+        (sym braces);
   }
 
-note_opened : (l : Level) (bs : List Open) (w : Place) (d : Option ℕ) (p : Pair) (t : Token) → Noted (opened (at l bs w d) p t) bs p t
-note_opened l bs place.Inside d p t = record { level = stored l t; where_ = place_in p l.is_assigned; deep = d; kind = group.Inner; is = refl }
-note_opened l bs place.Hidden d p t = record { level = l; where_ = place.Hidden; deep = d; kind = group.Hidden; is = refl }
+note_opened : (l : Level) (bs : List Open) (w : Place) (d : Option ℕ) (p : Pair) (t : Token)
+    → Noted (opened (at l bs w d) p t) bs p t
+note_opened l bs place.Inside d p t =
+    record {
+      level = stored l t;
+      where_ = place_in p l.is_assigned;
+      deep = d;
+      kind = group.Inner;
+      is = refl;
+    }
+note_opened l bs place.Hidden d p t =
+    record { level = l; where_ = place.Hidden; deep = d; kind = group.Hidden; is = refl }
 note_opened l bs place.Outside d p t = by (is_ending p l) refl where
   st : Cutter
   st = at l bs place.Outside d
@@ -117,7 +143,8 @@ note_opened l bs place.Outside d p t = by (is_ending p l) refl where
     where_ = n.where_;
     deep = n.deep;
     kind = n.kind;
-    is = ap (λ x. cond x (ending st t) (opened_in_head (behind_default st) p t group.Outer)) h ∙ n.is;
+    is = ap (λ x. cond x (ending st t) (opened_in_head (behind_default st) p t group.Outer)) h
+        ∙ n.is;
   }
 
 record Left (c : Cutter) (bs : List Open) : Type 0 where
@@ -126,12 +153,27 @@ record Left (c : Cutter) (bs : List Open) : Type 0 where
   deep : Option ℕ
   is : c ≡ at level bs where_ deep
 
-left_closed : (g : Kind) (line : ℕ) (l : Level) (bs : List Open) (w : Place) (d : Option ℕ) (t : Token) → Left (closed_group g line (at l bs w d) t) bs
-left_closed group.Outer line l bs w d t = record { level = stored l t; where_ = place.Outside; deep = d; is = refl }
-left_closed group.Inner line l bs w d t = record { level = stored l t; where_ = place.Inside; deep = d; is = refl }
+left_closed : (g : Kind) (line : ℕ) (l : Level) (bs : List Open) (w : Place) (d : Option ℕ)
+    (t : Token) → Left (closed_group g line (at l bs w d) t) bs
+left_closed group.Outer line l bs w d t =
+    record { level = stored l t; where_ = place.Outside; deep = d; is = refl }
+left_closed group.Inner line l bs w d t =
+    record { level = stored l t; where_ = place.Inside; deep = d; is = refl }
 left_closed group.Hidden line l bs w d t = record { level = l; where_ = w; deep = d; is = refl }
-left_closed group.Skipped line l bs w d t = record { level = (closed_group group.Skipped line (at l bs w d) t).level; where_ = place.Outside; deep = d; is = refl }
-left_closed (group.Body outer) line l bs w d t = record { level = (closed_group (group.Body outer) line (at l bs w d) t).level; where_ = w; deep = d; is = refl }
+left_closed group.Skipped line l bs w d t =
+    record {
+      level = (closed_group group.Skipped line (at l bs w d) t).level;
+      where_ = place.Outside;
+      deep = d;
+      is = refl;
+    }
+left_closed (group.Body outer) line l bs w d t =
+    record {
+      level = (closed_group (group.Body outer) line (at l bs w d) t).level;
+      where_ = w;
+      deep = d;
+      is = refl;
+    }
 
 -- a list is empty, or has a last item
 pub record Ended (os : List Open) : Type 0 where
@@ -155,82 +197,142 @@ verdict c = either c.wrong (first_line (marks c.brackets))
 abbrev pub wrong_among : List Bracket → Option ℕ
 wrong_among left = first_wrong left (first_line left)
 
-stays_wrong : (c : Cutter) (line : ℕ) (ts : List Token) → c.wrong ≡ Some line → verdict (run c ts) ≡ Some line
+stays_wrong : (c : Cutter) (line : ℕ) (ts : List Token) → c.wrong ≡ Some line
+    → verdict (run c ts) ≡ Some line
 unfolding step
 stays_wrong c line [] e = ap (λ x. either x (first_line (marks c.brackets))) e
-stays_wrong c line (t ∷ ts) e = ap (λ x. verdict (run (unless x c (step_by (mark_of t) c t)) ts)) e ∙ stays_wrong c line ts e
+stays_wrong c line (t ∷ ts) e = ap (λ x. verdict (run (unless x c (step_by (mark_of t) c t)) ts)) e
+    ∙ stays_wrong c line ts e
 
-step_closed : (l : Level) (bs : List Open) (w : Place) (d : Option ℕ) (p : Pair) (t : Token) → mark_of t ≡ Closing p
+step_closed : (l : Level) (bs : List Open) (w : Place) (d : Option ℕ) (p : Pair) (t : Token)
+    → mark_of t ≡ Closing p
     → step (at l bs w d) t ≡ closed_by (top bs) (at l (below bs) w d) p t
 unfolding step
 step_closed l bs w d p t e = ap (λ m. step_by m (at l bs w d) t) e
 
 -- a closing bracket behind the opening one that is open
-pub closes_last : (front : List Open) (o : Open) (p : Pair) (line : ℕ) (rest : List Bracket) → same_pair o.pair p ≡ true
-    → unpaired (marks front ++ bracket o.pair o.line ∷ record { mark = Closing p; line = line } ∷ rest) ≡ unpaired (marks front ++ rest)
+pub closes_last : (front : List Open) (o : Open) (p : Pair) (line : ℕ) (rest : List Bracket)
+    → same_pair o.pair p ≡ true
+    → unpaired
+    (marks front ++ bracket o.pair o.line ∷ record { mark = Closing p; line = line } ∷ rest)
+    ≡ unpaired (marks front ++ rest)
 closes_last front o p line rest e =
-    same_behind (marks front) (bracket o.pair o.line ∷ record { mark = Closing p; line = line } ∷ rest) rest
-    (ap (λ b. cond b (unpaired rest) (bracket o.pair o.line ∷ record { mark = Closing p; line = line } ∷ unpaired rest)) e)
+    same_behind (marks front)
+    (bracket o.pair o.line ∷ record { mark = Closing p; line = line } ∷ rest) rest
+    (ap (λ b. cond b (unpaired rest)
+    (bracket o.pair o.line ∷ record { mark = Closing p; line = line } ∷ unpaired rest)) e)
 
-pub wrong_last : (front : List Open) (o : Open) (p : Pair) (line : ℕ) (rest : List Bracket) (otherwise : Option ℕ) → same_pair o.pair p ≡ false
-    → first_wrong (unpaired (marks front ++ bracket o.pair o.line ∷ record { mark = Closing p; line = line } ∷ rest)) otherwise ≡ Some line
+pub wrong_last : (front : List Open) (o : Open) (p : Pair) (line : ℕ) (rest : List Bracket)
+    (otherwise : Option ℕ) → same_pair o.pair p ≡ false
+    → first_wrong
+    (unpaired
+    (marks front ++ bracket o.pair o.line ∷ record { mark = Closing p; line = line } ∷ rest))
+    otherwise ≡ Some line
 wrong_last front o p line rest otherwise e =
-    let inner : unpaired (bracket o.pair o.line ∷ record { mark = Closing p; line = line } ∷ rest) ≡ bracket o.pair o.line ∷ record { mark = Closing p; line = line } ∷ unpaired rest =
-    ap (λ b. cond b (unpaired rest) (bracket o.pair o.line ∷ record { mark = Closing p; line = line } ∷ unpaired rest)) e in
-    let all = stay_behind front o.pair o.line (bracket o.pair o.line ∷ record { mark = Closing p; line = line } ∷ rest) (record { mark = Closing p; line = line } ∷ unpaired rest) inner in
-    ap (λ left. first_wrong left otherwise) all ∙ no_closing front (bracket o.pair o.line ∷ record { mark = Closing p; line = line } ∷ unpaired rest) otherwise
+    let inner : unpaired (bracket o.pair o.line ∷ record { mark = Closing p; line = line } ∷ rest)
+    ≡ bracket o.pair o.line ∷ record { mark = Closing p; line = line } ∷ unpaired rest =
+    ap (λ b. cond b (unpaired rest)
+    (bracket o.pair o.line ∷ record { mark = Closing p; line = line } ∷ unpaired rest)) e in
+    let all =
+    stay_behind front o.pair o.line
+    (bracket o.pair o.line ∷ record { mark = Closing p; line = line } ∷ rest)
+    (record { mark = Closing p; line = line } ∷ unpaired rest) inner in
+    ap (λ left. first_wrong left otherwise) all
+    ∙ no_closing front
+    (bracket o.pair o.line ∷ record { mark = Closing p; line = line } ∷ unpaired rest) otherwise
 
 module _ (t : Token) (ts : List Token) (l : Level) (bs : List Open) (w : Place) (d : Option ℕ)
-    (behind : (l : Level) (bs : List Open) (w : Place) (d : Option ℕ) → verdict (run (at l bs w d) ts) ≡ wrong_among (unpaired (marks bs ++ map bracket_of ts))) where
-  marked : (m : Mark) → mark_of t ≡ m → wrong_among (unpaired (marks bs ++ record { mark = m; line = t.line } ∷ map bracket_of ts)) ≡ wrong_among (unpaired (marks bs ++ bracket_of t ∷ map bracket_of ts))
-  marked m e = ap (λ x. wrong_among (unpaired (marks bs ++ record { mark = x; line = t.line } ∷ map bracket_of ts))) (sym e)
-
-  wrong_plain : mark_of t ≡ Plain → verdict (run (step (at l bs w d) t) ts) ≡ wrong_among (unpaired (marks bs ++ bracket_of t ∷ map bracket_of ts))
-  wrong_plain e =
-      ap (λ c. verdict (run c ts)) (step_plain l bs w d t e) ∙ behind (plain_at w l t) bs w d
-      ∙ ap wrong_among (same_behind (marks bs) (map bracket_of ts) (record { mark = Plain; line = t.line } ∷ map bracket_of ts) refl) ∙ marked Plain e
-
-  wrong_opening : (p : Pair) → mark_of t ≡ Opening p → verdict (run (step (at l bs w d) t) ts) ≡ wrong_among (unpaired (marks bs ++ bracket_of t ∷ map bracket_of ts))
-  wrong_opening p e =
-      let n = note_opened l bs w d p t in
-      ap (λ c. verdict (run c ts)) (step_opening l bs w d p t e ∙ n.is) ∙ behind n.level (bs ++ entry p t n.kind ∷ []) n.where_ n.deep
-      ∙ ap (λ x. wrong_among (unpaired x)) (marks_end bs (entry p t n.kind) (map bracket_of ts)) ∙ marked (Opening p) e
-
-  wrong_closing : (p : Pair) → mark_of t ≡ Closing p → (bs ≡ []) ⊎ Ended bs → verdict (run (step (at l bs w d) t) ts) ≡ wrong_among (unpaired (marks bs ++ bracket_of t ∷ map bracket_of ts))
-  wrong_closing p e (inl none) =
-      ap (λ c. verdict (run c ts)) (step_closed l bs w d p t e ∙ ap (λ x. closed_by (top x) (at l (below x) w d) p t) none)
-      ∙ stays_wrong _ t.line ts refl
-      ∙ ap (λ x. wrong_among (unpaired (marks x ++ record { mark = Closing p; line = t.line } ∷ map bracket_of ts))) (sym none) ∙ marked (Closing p) e
-  wrong_closing p e (inr last) = by (same_pair last.end.pair p) refl where
-    taken : step (at l bs w d) t ≡ closed_by (Some last.end) (at l last.front w d) p t
-    taken = step_closed l bs w d p t e ∙ ap (λ x. closed_by (top x) (at l (below x) w d) p t) last.is
-        ∙ ap (λ x. closed_by x (at l (below (last.front ++ last.end ∷ [])) w d) p t) (top_end last.front last.end)
-        ∙ ap (λ x. closed_by (Some last.end) (at l x w d) p t) (below_end last.front last.end)
-
-    shown : wrong_among (unpaired (marks last.front ++ bracket last.end.pair last.end.line ∷ record { mark = Closing p; line = t.line } ∷ map bracket_of ts))
+    (behind : (l : Level) (bs : List Open) (w : Place) (d : Option ℕ)
+    → verdict (run (at l bs w d) ts) ≡ wrong_among (unpaired (marks bs ++ map bracket_of ts)))
+  where
+    marked : (m : Mark) → mark_of t ≡ m
+        → wrong_among (unpaired (marks bs ++ record { mark = m; line = t.line } ∷ map bracket_of ts))
         ≡ wrong_among (unpaired (marks bs ++ bracket_of t ∷ map bracket_of ts))
-    shown = ap (λ x. wrong_among (unpaired x)) (sym (marks_end last.front last.end (record { mark = Closing p; line = t.line } ∷ map bracket_of ts)))
-        ∙ ap (λ x. wrong_among (unpaired (marks x ++ record { mark = Closing p; line = t.line } ∷ map bracket_of ts))) (sym last.is) ∙ marked (Closing p) e
+    marked m e =
+        ap (λ x. wrong_among
+        (unpaired (marks bs ++ record { mark = x; line = t.line } ∷ map bracket_of ts))) (sym e)
 
-    by : (b : Bool) → same_pair last.end.pair p ≡ b → verdict (run (step (at l bs w d) t) ts) ≡ wrong_among (unpaired (marks bs ++ bracket_of t ∷ map bracket_of ts))
-    by true s =
-        let n = left_closed last.end.group last.end.line l last.front w d t in
-        ap (λ c. verdict (run c ts)) (taken ∙ ap (λ x. cond x (closed_group last.end.group last.end.line (at l last.front w d) t) (record (at l last.front w d) { wrong = Some t.line })) s ∙ n.is)
-        ∙ behind n.level last.front n.where_ n.deep
-        ∙ ap wrong_among (sym (closes_last last.front last.end p t.line (map bracket_of ts) s)) ∙ shown
-    by false s =
-        ap (λ c. verdict (run c ts)) (taken ∙ ap (λ x. cond x (closed_group last.end.group last.end.line (at l last.front w d) t) (record (at l last.front w d) { wrong = Some t.line })) s)
+    wrong_plain : mark_of t ≡ Plain → verdict (run (step (at l bs w d) t) ts)
+        ≡ wrong_among (unpaired (marks bs ++ bracket_of t ∷ map bracket_of ts))
+    wrong_plain e =
+        ap (λ c. verdict (run c ts)) (step_plain l bs w d t e) ∙ behind (plain_at w l t) bs w d
+        ∙ ap wrong_among
+        (same_behind (marks bs) (map bracket_of ts)
+        (record { mark = Plain; line = t.line } ∷ map bracket_of ts) refl) ∙ marked Plain e
+
+    wrong_opening : (p : Pair) → mark_of t ≡ Opening p
+        → verdict (run (step (at l bs w d) t) ts)
+        ≡ wrong_among (unpaired (marks bs ++ bracket_of t ∷ map bracket_of ts))
+    wrong_opening p e =
+        let n = note_opened l bs w d p t in
+        ap (λ c. verdict (run c ts)) (step_opening l bs w d p t e ∙ n.is)
+        ∙ behind n.level (bs ++ entry p t n.kind ∷ []) n.where_ n.deep
+        ∙ ap (λ x. wrong_among (unpaired x)) (marks_end bs (entry p t n.kind) (map bracket_of ts))
+        ∙ marked (Opening p) e
+
+    wrong_closing : (p : Pair) → mark_of t ≡ Closing p → (bs ≡ []) ⊎ Ended bs
+        → verdict (run (step (at l bs w d) t) ts)
+        ≡ wrong_among (unpaired (marks bs ++ bracket_of t ∷ map bracket_of ts))
+    wrong_closing p e (inl none) =
+        ap (λ c. verdict (run c ts)) (step_closed l bs w d p t e
+        ∙ ap (λ x. closed_by (top x) (at l (below x) w d) p t) none)
         ∙ stays_wrong _ t.line ts refl
-        ∙ sym (wrong_last last.front last.end p t.line (map bracket_of ts) _ s) ∙ shown
+        ∙ ap (λ x. wrong_among
+        (unpaired (marks x ++ record { mark = Closing p; line = t.line } ∷ map bracket_of ts)))
+        (sym none) ∙ marked (Closing p) e
+    wrong_closing p e (inr last) = by (same_pair last.end.pair p) refl where
+      taken : step (at l bs w d) t ≡ closed_by (Some last.end) (at l last.front w d) p t
+      taken = step_closed l bs w d p t e
+          ∙ ap (λ x. closed_by (top x) (at l (below x) w d) p t) last.is
+          ∙ ap (λ x. closed_by x (at l (below (last.front ++ last.end ∷ [])) w d) p t)
+          (top_end last.front last.end)
+          ∙ ap (λ x. closed_by (Some last.end) (at l x w d) p t) (below_end last.front last.end)
 
-pub wrong_run : (ts : List Token) (l : Level) (bs : List Open) (w : Place) (d : Option ℕ) → verdict (run (at l bs w d) ts) ≡ wrong_among (unpaired (marks bs ++ map bracket_of ts))
+      shown : wrong_among
+          (unpaired
+          (marks last.front
+          ++ bracket last.end.pair last.end.line ∷ record { mark = Closing p; line = t.line }
+          ∷ map bracket_of ts))
+          ≡ wrong_among (unpaired (marks bs ++ bracket_of t ∷ map bracket_of ts))
+      shown =
+          ap (λ x. wrong_among (unpaired x))
+          (sym (marks_end last.front last.end
+          (record { mark = Closing p; line = t.line } ∷ map bracket_of ts)))
+          ∙ ap (λ x. wrong_among
+          (unpaired (marks x ++ record { mark = Closing p; line = t.line } ∷ map bracket_of ts)))
+          (sym last.is) ∙ marked (Closing p) e
+
+      by : (b : Bool) → same_pair last.end.pair p ≡ b
+          → verdict (run (step (at l bs w d) t) ts)
+          ≡ wrong_among (unpaired (marks bs ++ bracket_of t ∷ map bracket_of ts))
+      by true s =
+          let n = left_closed last.end.group last.end.line l last.front w d t in
+          ap (λ c. verdict (run c ts)) (taken
+          ∙ ap (λ x. cond x (closed_group last.end.group last.end.line (at l last.front w d) t)
+          (record (at l last.front w d) { wrong = Some t.line })) s ∙ n.is)
+          ∙ behind n.level last.front n.where_ n.deep
+          ∙ ap wrong_among (sym (closes_last last.front last.end p t.line (map bracket_of ts) s))
+          ∙ shown
+      by false s =
+          ap (λ c. verdict (run c ts)) (taken
+          ∙ ap (λ x. cond x (closed_group last.end.group last.end.line (at l last.front w d) t)
+          (record (at l last.front w d) { wrong = Some t.line })) s)
+          ∙ stays_wrong _ t.line ts refl
+          ∙ sym (wrong_last last.front last.end p t.line (map bracket_of ts) _ s) ∙ shown
+
+pub wrong_run : (ts : List Token) (l : Level) (bs : List Open) (w : Place) (d : Option ℕ)
+    → verdict (run (at l bs w d) ts) ≡ wrong_among (unpaired (marks bs ++ map bracket_of ts))
 wrong_run [] l bs w d =
-    let e : unpaired (marks bs ++ []) ≡ marks bs ++ [] = ap unpaired (append-nil (marks bs)) ∙ openings_stay bs ∙ sym (append-nil (marks bs)) in
-    ap first_line (sym (append-nil (marks bs))) ∙ sym (no_closing bs [] (first_line (marks bs ++ []))) ∙ ap wrong_among (sym e)
+    let e : unpaired (marks bs ++ []) ≡ marks bs ++ [] = ap unpaired (append-nil (marks bs))
+    ∙ openings_stay bs ∙ sym (append-nil (marks bs)) in
+    ap first_line (sym (append-nil (marks bs)))
+    ∙ sym (no_closing bs [] (first_line (marks bs ++ []))) ∙ ap wrong_among (sym e)
 wrong_run (t ∷ ts) l bs w d = by (mark_of t) refl (wrong_run ts) where
   by : (m : Mark) → mark_of t ≡ m
-      → ((l : Level) (bs : List Open) (w : Place) (d : Option ℕ) → verdict (run (at l bs w d) ts) ≡ wrong_among (unpaired (marks bs ++ map bracket_of ts)))
-      → verdict (run (step (at l bs w d) t) ts) ≡ wrong_among (unpaired (marks bs ++ bracket_of t ∷ map bracket_of ts))
+      → ((l : Level) (bs : List Open) (w : Place) (d : Option ℕ)
+      → verdict (run (at l bs w d) ts) ≡ wrong_among (unpaired (marks bs ++ map bracket_of ts)))
+      → verdict (run (step (at l bs w d) t) ts)
+      ≡ wrong_among (unpaired (marks bs ++ bracket_of t ∷ map bracket_of ts))
   by Plain e behind = wrong_plain t ts l bs w d behind e
   by (Opening p) e behind = wrong_opening t ts l bs w d behind p e
   by (Closing p) e behind = wrong_closing t ts l bs w d behind p e (last_of bs)

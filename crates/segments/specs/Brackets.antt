@@ -1,10 +1,14 @@
 -- The brackets of a list of tokens (JLS 3.11), and which of them don't pair.
-use Rattle.std.specs.Prelude.{◌≡◌, ℕ, zero, suc, ◌+◌, Bool, true, false, not, ◌&&◌, ◌||◌, ◌==◌, if◌then◌else◌, List, [], ◌∷◌, ◌++◌, length, Option, Some, None}
+use Rattle.std.specs.Prelude.{◌≡◌, ℕ, zero, suc, ◌+◌, Bool, true, false, not, ◌&&◌, ◌||◌, ◌==◌}
+use Rattle.std.specs.Prelude.{if◌then◌else◌, List, [], ◌∷◌, ◌++◌, length, Option, Some, None}
 use Rattle.java_token.specs.declared.token.Token.{Token}
 use Rattle.java_token.specs.declared.token.TokenKind.{TokenKind}
 use Rattle.java_token.specs.declared.token.TokenKind.TheVariants as kind
 use Rattle.java_token.specs.declared.operator.OpTok.{OpTok}
-use Rattle.java_token.specs.declared.operator.OpTok.TheVariants.{LeftParenthesis, RightParenthesis, LeftBracket, RightBracket, LeftBrace, RightBrace}
+use Rattle.java_token.specs.declared.operator.OpTok.TheVariants.{LeftParenthesis}
+use Rattle.java_token.specs.declared.operator.OpTok.TheVariants.{RightParenthesis, LeftBracket}
+use Rattle.java_token.specs.declared.operator.OpTok.TheVariants.{RightBracket, LeftBrace}
+use Rattle.java_token.specs.declared.operator.OpTok.TheVariants.{RightBrace}
 use Rattle.segments.specs.declared.bracket.Pair.{Pair}
 use Rattle.segments.specs.declared.bracket.Pair.TheVariants.{Parentheses, Brackets, Braces}
 use Rattle.segments.specs.declared.bracket.Mark.{Mark}
@@ -33,12 +37,16 @@ same_pair Brackets Brackets = true
 same_pair Braces Braces = true
 same_pair _ _ = false
 
--- the brackets of a list pair: it is empty, or begins with a token that is no bracket, or with a group
+-- the brackets of a list pair: it is empty, or begins with a token that is no bracket, or with a
+-- group
 pub data IsBalanced : List Token → Type 0 where
   no_token : IsBalanced []
-  single : (t : Token) (behind : List Token) → mark_of t ≡ Plain → IsBalanced behind → IsBalanced (t ∷ behind)
-  in_group : (pair : Pair) (opening : Token) (inside : List Token) (closing : Token) (behind : List Token)
-      → mark_of opening ≡ Opening pair → IsBalanced inside → mark_of closing ≡ Closing pair → IsBalanced behind
+  single : (t : Token) (behind : List Token) → mark_of t ≡ Plain → IsBalanced behind
+      → IsBalanced (t ∷ behind)
+  in_group : (pair : Pair) (opening : Token) (inside : List Token) (closing : Token)
+      (behind : List Token)
+      → mark_of opening ≡ Opening pair → IsBalanced inside → mark_of closing ≡ Closing pair
+      → IsBalanced behind
       → IsBalanced (opening ∷ (inside ++ closing ∷ behind))
 
 -- ---- what stands outside all brackets
@@ -85,8 +93,8 @@ abbrev pub is_plain : Mark → Bool
 is_plain Plain = true
 is_plain _ = false
 
--- whether the brackets of a list of at most n tokens pair: it is empty, or begins with a token that is no
--- bracket, or with a group
+-- whether the brackets of a list of at most n tokens pair: it is empty, or begins with a token
+-- that is no bracket, or with a group
 unfoldable pub is_balanced_within : ℕ → List Token → Bool
 is_balanced_within n [] = true
 is_balanced_within zero (t ∷ ts) = false
@@ -97,8 +105,8 @@ is_balanced_within (suc n) (t ∷ ts) = (is_plain (mark_of t) && is_balanced_wit
 abbrev pub is_balanced : List Token → Bool
 is_balanced tokens = is_balanced_within (length tokens) tokens
 
--- a closing bracket pairs where an opening one of its kind stands before it, and between them tokens whose
--- brackets pair
+-- a closing bracket pairs where an opening one of its kind stands before it, and between them
+-- tokens whose brackets pair
 abbrev pub pairs_back : List Token → Token → Bool
 pairs_back before closing =
     some_token (λ front opening inside. are_pair opening closing && is_balanced inside) before
@@ -127,4 +135,5 @@ or_else None other = other
 -- where the brackets don't pair: the line of the first closing bracket that doesn't pair,
 -- and if there is none, of the first opening bracket that stays open
 unfoldable pub wrong_line : List Token → Option ℕ
-wrong_line tokens = or_else (line_of_first is_wrong_closing tokens) (line_of_first is_left_open tokens)
+wrong_line tokens =
+    or_else (line_of_first is_wrong_closing tokens) (line_of_first is_left_open tokens)

@@ -3,7 +3,6 @@ pub mod Words
 pub mod Places
 pub mod Cut
 pub mod Segmentwise
-pub mod Stack
 pub mod Levels
 pub mod Steps
 pub mod Finish

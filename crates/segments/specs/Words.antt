@@ -4,7 +4,8 @@ use lib.Pointwise.{pointwise}
 use Rattle.java_token.specs.declared.token.Token.{Token}
 use Rattle.java_token.specs.declared.token.TokenKind.{TokenKind}
 use Rattle.java_token.specs.declared.token.TokenKind.TheVariants as kind
-use Rattle.java_token.specs.declared.operator.OpTok.TheVariants.{Semicolon, Assign, Dot, LeftParenthesis, Less}
+use Rattle.java_token.specs.declared.operator.OpTok.TheVariants.{Semicolon, Assign, Dot}
+use Rattle.java_token.specs.declared.operator.OpTok.TheVariants.{LeftParenthesis, Less}
 use Rattle.java_token.specs.declared.keyword.Kw.TheVariants as word
 
 abbrev pub kind_is_semicolon : TokenKind → Bool
@@ -57,7 +58,8 @@ kind_follows_name (kind.Op Less) = true
 kind_follows_name _ = false
 
 abbrev pub begins_record : List Token → Bool
-begins_record (word ∷ name ∷ next ∷ _) = kind_is_record word.kind && (kind_is_word name.kind && kind_follows_name next.kind)
+begins_record (word ∷ name ∷ next ∷ _) =
+    kind_is_record word.kind && (kind_is_word name.kind && kind_follows_name next.kind)
 begins_record _ = false
 
 -- the tokens behind a place begin with what makes a declaration one of a class

@@ -6,8 +6,8 @@ use crate::bracket::Mark;
 use crate::words::{begins_class, is_dot};
 use java_token::Token;
 
-/// The group behind this head is a class body: outside brackets, and not behind `.`, stands `class`, `interface`,
-/// `enum`, or `record` and a name with `(` or `<` behind it.
+/// The group behind this head is a class body: outside brackets, and not behind `.`, stands
+/// `class`, `interface`, `enum`, or `record` and a name with `(` or `<` behind it.
 pub fn is_class_head(head: &[Token]) -> bool
     ensures { result ≡ is_class_head head.now }
 {

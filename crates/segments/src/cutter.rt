@@ -1,13 +1,14 @@
 ghost use Rattle.std.specs.Prelude.{◌≡◌, OnOk, Some};
 ghost use Rattle.segments.specs.Answer.{Gives};
 ghost use Rattle.segments.specs.Finish.{finished};
-ghost use Rattle.segments.specs.Steps.{start, step, plain, noted, noted_deep, skipping, ending, is_ending, opened_in_head, opened, closed, closed_group, left_body};
+ghost use Rattle.segments.specs.Steps.{start, step, plain, noted, noted_deep, skipping, ending};
+ghost use Rattle.segments.specs.Steps.{is_ending, opened_in_head, opened, closed, closed_group};
+ghost use Rattle.segments.specs.Steps.{left_body};
 
 use crate::bracket::{Mark, Pair};
 use crate::class_head::is_class_head;
 use crate::error::SegErr;
 use crate::level::Level;
-use crate::list::{pop, push};
 use crate::segment::{SegEnd, Segment};
 use crate::words::{is_assign, is_default, is_semicolon};
 use hdr_core::{List, Memory};
@@ -96,7 +97,7 @@ impl Cutter {
     }
 
     /// The list ends.
-    pub fn finish(self, alloc: Global) -> Result<List<Segment>, SegErr>
+    pub fn finish(self) -> Result<List<Segment>, SegErr>
         ensures { Gives result (finished self) }
     {
         let Cutter {
@@ -116,7 +117,7 @@ impl Cutter {
         if let Some(line) = deep {
             return Err(SegErr::TooDeep { line });
         }
-        Ok(level.into_segments(alloc)?)
+        Ok(level.into_segments()?)
     }
 
     fn plain(&mut self, alloc: Global, token: &Token) -> Result<(), Memory>
@@ -145,7 +146,7 @@ impl Cutter {
                 self.open_in_head(alloc, pair, token, Group::Outer)
             }
             Place::Inside => self.open_in_head(alloc, pair, token, Group::Inner),
-            Place::Hidden => self.note(alloc, pair, token, Group::Hidden),
+            Place::Hidden => self.note(pair, token, Group::Hidden),
         }
     }
 
@@ -159,18 +160,14 @@ impl Cutter {
         }
     }
 
-    fn note(&mut self, alloc: Global, pair: Pair, token: &Token, group: Group) -> Result<(), Memory>
+    fn note(&mut self, pair: Pair, token: &Token, group: Group) -> Result<(), Memory>
         ensures { OnOk result (self.new ≡ noted self.old pair token.now group) }
     {
-        push(
-            alloc,
-            &mut self.brackets,
-            Open {
-                pair,
-                line: token.line,
-                group,
-            },
-        )
+        self.brackets.push(Open {
+            pair,
+            line: token.line,
+            group,
+        })
     }
 
     fn open_in_head(
@@ -187,7 +184,7 @@ impl Cutter {
             Pair::Braces if self.level.is_assigned => Place::Hidden,
             _ => Place::Inside,
         };
-        self.note(alloc, pair, token, group)
+        self.note(pair, token, group)
     }
 
     /// A group that ends the segment.
@@ -195,23 +192,23 @@ impl Cutter {
         ensures { OnOk result (self.new ≡ ending self.old token.now) }
     {
         if !is_class_head(self.level.head.items()) {
-            return self.skip(alloc, token);
+            return self.skip(token);
         }
         if self.level.left == 0 {
             self.note_deep(token);
-            return self.skip(alloc, token);
+            return self.skip(token);
         }
         let inner = Level::new(alloc, self.level.left - 1);
         let outer = mem::replace(&mut self.level, inner);
-        push(alloc, &mut self.outer, outer)?;
-        self.note(alloc, Pair::Braces, token, Group::Body)
+        self.outer.push(outer)?;
+        self.note(Pair::Braces, token, Group::Body)
     }
 
-    fn skip(&mut self, alloc: Global, token: &Token) -> Result<(), Memory>
+    fn skip(&mut self, token: &Token) -> Result<(), Memory>
         ensures { OnOk result (self.new ≡ skipping self.old token.now) }
     {
         self.place = Place::Hidden;
-        self.note(alloc, Pair::Braces, token, Group::Skipped)
+        self.note(Pair::Braces, token, Group::Skipped)
     }
 
     /// The head of the level has a class body too deep.
@@ -230,7 +227,7 @@ impl Cutter {
     fn close(&mut self, alloc: Global, pair: Pair, token: &Token) -> Result<(), Memory>
         ensures { OnOk result (self.new ≡ closed self.old pair token.now) }
     {
-        match pop(alloc, &mut self.brackets) {
+        match self.brackets.pop() {
             Some(bracket) if bracket.pair == pair => self.close_group(alloc, bracket, token),
             _ => {
                 self.wrong = Some(token.line);
@@ -244,12 +241,13 @@ impl Cutter {
         ensures { OnOk result (self.new ≡ left_body (Some outer) self.old) }
     {
         let inner = mem::replace(&mut self.level, outer);
-        let body = inner.into_segments(alloc)?;
+        let body = inner.into_segments()?;
         self.level.end(alloc, SegEnd::Body(body))
     }
 
     fn close_group(&mut self, alloc: Global, bracket: Open, token: &Token) -> Result<(), Memory>
-        ensures { OnOk result (self.new ≡ closed_group bracket.group bracket.line self.old token.now) }
+        ensures { OnOk result (self.new
+            ≡ closed_group bracket.group bracket.line self.old token.now) }
     {
         match bracket.group {
             Group::Outer => {
@@ -266,7 +264,7 @@ impl Cutter {
                 let line = bracket.line;
                 self.level.end(alloc, SegEnd::Skipped { line })
             }
-            Group::Body => match pop(alloc, &mut self.outer) {
+            Group::Body => match self.outer.pop() {
                 Some(outer) => self.leave_body(alloc, outer),
                 None => Ok(()),
             },

@@ -6,9 +6,11 @@ use hdr_core::Memory;
 /// Why a list of tokens has no segments.
 #[derive(Debug, PartialEq, Eq, Drop)]
 pub enum SegErr {
-    /// The line of the first closing bracket that doesn't pair, else of the first opening bracket that stays open.
+    /// The line of the first closing bracket that doesn't pair, else of the first opening bracket
+    /// that stays open.
     Unbalanced { line: u32 },
-    /// The line on which the first class body that stands in more than 64, itself counted, has its head's first token.
+    /// The line on which the first class body that stands in more than 64, itself counted, has its
+    /// head's first token.
     TooDeep { line: u32 },
     Memory,
 }

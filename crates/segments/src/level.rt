@@ -1,7 +1,6 @@
 ghost use Rattle.std.specs.Prelude.{◌≡◌, IfOk, OnOk};
 ghost use Rattle.segments.specs.Levels.{fresh, stored, ended, segments_of};
 
-use crate::list::push;
 use crate::segment::{SegEnd, Segment};
 use hdr_core::{List, Memory};
 use java_token::Token;
@@ -39,7 +38,7 @@ impl Level {
         ensures { OnOk result (self.new ≡ stored self.old token.now) }
     {
         let copy = token.copy(alloc)?;
-        push(alloc, &mut self.head, copy)
+        self.head.push(copy)
     }
 
     /// The segment that is read ends.
@@ -49,11 +48,11 @@ impl Level {
         let head = mem::replace(&mut self.head, List::of(Vec::new(alloc)));
         self.is_assigned = false;
         self.is_behind_default = false;
-        push(alloc, &mut self.done, Segment { head, end })
+        self.done.push(Segment { head, end })
     }
 
     /// The list ends.
-    pub fn into_segments(self, alloc: Global) -> Result<List<Segment>, Memory>
+    pub fn into_segments(self) -> Result<List<Segment>, Memory>
         ensures { IfOk result (λ segments. segments ≡ segments_of self) }
     {
         let Level {
@@ -63,15 +62,11 @@ impl Level {
             is_assigned: _,
             is_behind_default: _,
         } = self;
-        if !head.items().is_empty() {
-            push(
-                alloc,
-                &mut done,
-                Segment {
-                    head,
-                    end: SegEnd::Tail,
-                },
-            )?;
+        if !head.is_empty() {
+            done.push(Segment {
+                head,
+                end: SegEnd::Tail,
+            })?;
         }
         Ok(done)
     }

@@ -8,7 +8,6 @@ mod cutter;
 mod error;
 mod laws;
 mod level;
-mod list;
 mod segment;
 mod words;
 

@@ -5,7 +5,8 @@ use java_token::Token;
 #[cycle(segment)]
 #[derive(Drop)]
 pub struct Segment {
-    /// The tokens before the end. Behind a `=` outside brackets each group in braces is its two braces alone.
+    /// The tokens before the end. Behind a `=` outside brackets each group in braces is its two
+    /// braces alone.
     pub head: List<Token>,
     pub end: SegEnd,
 }

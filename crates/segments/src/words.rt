@@ -1,5 +1,7 @@
 ghost use Rattle.std.specs.Prelude.{◌≡◌};
-ghost use Rattle.segments.specs.Words.{is_semicolon, is_assign, is_dot, is_default, begins_class, kind_names_class, kind_is_word, kind_is_record, kind_follows_name};
+ghost use Rattle.segments.specs.Words.{is_semicolon, is_assign, is_dot, is_default, begins_class};
+ghost use Rattle.segments.specs.Words.{kind_names_class, kind_is_word, kind_is_record};
+ghost use Rattle.segments.specs.Words.{kind_follows_name};
 
 use java_token::{Kw, OpTok, Token, TokenKind};
 
