@@ -1,12 +1,15 @@
 -- Two hierarchies that are alike, as two worlds in which the same is found, or names and numbers:
 -- steps that keep a relation make related things at each depth.
-use Rattle.std.proofs.Common.{◌≡◌, refl, sym, subst, ℕ, zero, suc, List, [], ◌∷◌, ◌++◌, Option, Some, None}
+use Rattle.std.proofs.Common.{◌≡◌, refl, sym, subst, ℕ, zero, suc, List, [], ◌∷◌, ◌++◌, Option}
+use Rattle.std.proofs.Common.{Some, None}
 use Rattle.std.specs.Prelude.{option_and_then, option_map, option_to_list, unwrap_or}
 use Rattle.std.specs.List.{filter_map, cons_option}
 use Rattle.class_views.specs.View.{View}
 use Rattle.class_views.specs.Supertypes.{Hierarchy, StepOf, step_over, fold_at}
-use Rattle.class_views.specs.World.{World, hierarchy, walk_step, walk_at, chain_step, chain_at, joined}
-use Rattle.class_views.specs.Alike.{Both, Each, Stand, done, paired, gone_first, gone_second, AreAlike, Keeps}
+use Rattle.class_views.specs.World.{World, hierarchy, walk_step, walk_at, chain_step, chain_at}
+use Rattle.class_views.specs.World.{joined}
+use Rattle.class_views.specs.Alike.{Both, Each, Stand, done, paired, gone_first, gone_second}
+use Rattle.class_views.specs.Alike.{AreAlike, Keeps}
 use Rattle.class_views.proofs.Settled.{gone}
 
 pub each_append : {X Y : Type 0} (Related : X → Y → Type 0) (xs : List X) (ys : List Y)
@@ -24,7 +27,8 @@ module _ {N M C D : Type 0} (h : Hierarchy N C) (g : Hierarchy M D) where
         (keeps : Keeps Related Agree step other) where
       abbrev MadeAlike : ℕ → Type 0
       MadeAlike depth =
-          (n : N) (m : M) → Same n m → Both Agree (fold_at h step depth n) (fold_at g other depth m)
+          (n : N) (m : M) → Same n m → Both Agree (fold_at h step depth n)
+          (fold_at g other depth m)
 
       more_each : (a : Option A) (b : Option B) (xs : List A) (ys : List B) → Both Agree a b →
           Each Agree xs ys → Each Agree (cons_option a xs) (cons_option b ys)

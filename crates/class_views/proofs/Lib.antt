@@ -2,6 +2,8 @@ pub mod Alike
 pub mod Filtered
 pub mod Members
 pub mod Settled
+pub mod Staying
 pub mod Stripped
+pub mod Viewed
 pub mod Ways
 pub mod Worlds

@@ -1,21 +1,31 @@
 -- The sets of members, one step at a time.
-use Rattle.std.proofs.Common.{◌≡◌, refl, sym, ap, subst, ◌∙◌, arith, ℕ, zero, suc, ◌≤◌, Bool, true, false, not, cond, ◌&&◌, ◌||◌, ◌⊎◌, inl, inr, List, [], ◌∷◌, length, Option, Some, None, if◌then◌else◌}
+use Rattle.std.proofs.Common.{◌≡◌, refl, sym, ap, subst, ◌∙◌, arith, ℕ, zero, suc, ◌≤◌, Bool}
+use Rattle.std.proofs.Common.{true, false, not, cond, ◌&&◌, ◌||◌, ◌⊎◌, inl, inr, List, [], ◌∷◌}
+use Rattle.std.proofs.Common.{length, Option, Some, None, if◌then◌else◌}
 use Rattle.std.specs.Prelude.{filter, option_and_then, option_map, option_to_list, unwrap_or}
 use Rattle.std.specs.Option.{option_map_or}
 use Rattle.std.specs.List.{list_any, filter_map, cons_option}
 use Rattle.std.specs.Cmp.{both_ways}
-use Rattle.std.proofs.lemmas.Bool.{or_cases, or_right, and_from, and_parts, not-true, false≢true, false_from_ne_true, cases_Bool}
+use Rattle.std.proofs.lemmas.Bool.{or_cases, or_right, and_from, and_parts, not-true, false≢true}
+use Rattle.std.proofs.lemmas.Bool.{false_from_ne_true, cases_Bool}
 use Rattle.java_names.specs.Names.{is_text}
 use Rattle.class_views.specs.View.{View}
 use Rattle.class_views.specs.Supertypes.{step_over, fold_at}
-use Rattle.class_views.specs.World.{World, class_of, hierarchy, supertypes, leads_to, is_below, HasNoRing}
+use Rattle.class_views.specs.World.{World, class_of, hierarchy, supertypes, leads_to, is_below}
+use Rattle.class_views.specs.World.{HasNoRing}
 use Rattle.class_views.specs.Resolution.{NameAndType}
-use Rattle.class_views.specs.Membership.{Key, FieldKey, MethodKey, Candidate, Members, declared, inherits, overrides, is_overridden, either, remaining, left_by_super, chosen, chosen_of, is_empty, own, member_step, nothing, members_at, members_among}
-use Rattle.class_views.specs.OneStep.{inherited_by_superclass, inherited_by_superinterfaces, members_over, in_one_step, inherited_in_one_step}
+use Rattle.class_views.specs.Membership.{Key, FieldKey, MethodKey, Candidate, Members, declared}
+use Rattle.class_views.specs.Membership.{inherits, overrides, is_overridden, either, remaining}
+use Rattle.class_views.specs.Membership.{left_by_super, chosen, chosen_of, is_empty, own}
+use Rattle.class_views.specs.Membership.{member_step, nothing, members_at, members_among}
+use Rattle.class_views.specs.OneStep.{inherited_by_superclass, inherited_by_superinterfaces}
+use Rattle.class_views.specs.OneStep.{members_over, in_one_step, inherited_in_one_step}
 use Rattle.class_views.specs.OneStep.{AreApart as ListedApart}
-use Rattle.class_views.proofs.Ways.{In, first, later, any_in, in_any, none_in, Way, here, along, joins}
+use Rattle.class_views.proofs.Ways.{In, first, later, any_in, in_any, none_in, Way, here, along}
+use Rattle.class_views.proofs.Ways.{joins}
 use Rattle.class_views.proofs.Settled.{Leads, Climbs, in_front, in_back}
-use Rattle.class_views.proofs.Worlds.{same_text, texts, found_named, leads_to_way, leads_to_onward, free, made_settled}
+use Rattle.class_views.proofs.Worlds.{same_text, texts, found_named, leads_to_way}
+use Rattle.class_views.proofs.Worlds.{leads_to_onward, free, made_settled}
 
 -- ---- what a class's members are, from those of its supertypes
 
@@ -82,7 +92,8 @@ module _ (world : World) (key : Key) (all : List Candidate) where
 
   abbrev super_at : ℕ → View → Members
   super_at depth c k =
-      option_map_or (λ super. members_at world key all depth super k) c.super_name false && inherits
+      option_map_or (λ super. members_at world key all depth super k) c.super_name false
+      && inherits
       key c k
 
   abbrev interface_at : ℕ → View → Members
@@ -150,7 +161,8 @@ module _ (world : World) (key : Key) (all : List Candidate) where
         in_back s c.interfaces (option_to_list c.super_name)
             (subst (λ o. In s (option_to_list o)) (sym e) first),
         sym
-            (ap (λ o. option_map_or (λ super. members_at world key all depth super k) o false) e) ∙ u,
+            (ap (λ o. option_map_or (λ super. members_at world key all depth super k) o false) e)
+            ∙ u,
       )
 
   came_interface : (depth : ℕ) (c : View) (k : Candidate) → interface_at depth c k ≡ true →
@@ -403,7 +415,8 @@ module _ (world : World) (all : List Candidate) (by_super by_interface : Members
       module _
           (onward : (i o k : Candidate) → by_interface k ≡ true →
           is_below world i.declarer o.declarer ≡ true →
-          is_below world o.declarer k.declarer ≡ true → is_below world i.declarer k.declarer ≡ true)
+          is_below world o.declarer k.declarer ≡ true → is_below world i.declarer k.declarer
+          ≡ true)
         where
           interface_overridden : (k : Candidate) → by_interface k ≡ true →
               is_overridden world all come k ≡ is_overridden world all by_interface k
@@ -424,7 +437,8 @@ module _ (world : World) (all : List Candidate) (by_super by_interface : Members
                     below = o.below;
                   })
 
-              further : (o : Overrides world all come k) → Overrides world all by_interface o.other →
+              further : (o : Overrides world all come k) →
+                  Overrides world all by_interface o.other →
                   is_overridden world all by_interface k ≡ true
               further o p =
                   overridden world all by_interface k
@@ -469,16 +483,19 @@ module _ (world : World) (all : List Candidate) (by_super by_interface : Members
                   (by_interface k ≡ true) ⊎ (by_interface k ≡ false) →
                   remaining world all come come k ≡ remaining world all by_interface by_interface k
               by (inl t) u =
-                  let over : is_overridden world all by_interface k ≡ true = all_overridden k at t in
+                  let over : is_overridden world all by_interface k ≡ true =
+                  all_overridden k at t in
                   ap (λ b. come k && not b) (super_overridden k t ∙ over) ∙ nil (come k)
                   ∙ sym (ap (λ b. by_interface k && not b) over ∙ nil (by_interface k))
-              by (inr f) (inl t) = (λ i. (f i || by_interface k) && not (interface_overridden k t i))
+              by (inr f) (inl t) = (λ i. (f i || by_interface k)
+                  && not (interface_overridden k t i))
               by (inr f) (inr g) =
                   (λ i. (f i || g i) && not (is_overridden world all come k))
                   ∙ sym (ap (λ b. b && not (is_overridden world all by_interface k)) g)
 
     pub chosen_in_one_step :
-        ((i o k : Candidate) → by_interface k ≡ true → is_below world i.declarer o.declarer ≡ true →
+        ((i o k : Candidate) → by_interface k ≡ true → is_below world i.declarer o.declarer
+        ≡ true →
         is_below world o.declarer k.declarer ≡ true →
         is_below world i.declarer k.declarer ≡ true) → (k : Candidate) → In k all →
         chosen world all by_super by_interface k ≡ in_one_step world all by_super by_interface k
@@ -583,7 +600,8 @@ module _ (world : World) (name : List ℕ) (none : HasNoRing world name) where
             option_map_or (λ super. members_among world (MethodKey sought) all super other) o false
             ≡ true → is_below world other.declarer k.declarer ≡ false
         by None v w = absurd (false≢true v)
-        by (Some super) v w = members_apart world all sought (length world) super k other at v w i j
+        by (Some super) v w = members_apart world all sought (length world) super k other at v w i
+            j
 
     interface_onward : (i o k : Candidate) →
         inherited_by_superinterfaces world (MethodKey sought) all c k ≡ true →

@@ -1,6 +1,7 @@
--- Where no class above reaches itself, the fold along supertypes is the same at each depth from the
--- number of classes on.
-use Rattle.std.proofs.Common.{◌≡◌, refl, sym, ap, subst, ◌∙◌, ℕ, zero, suc, ◌+◌, ◌-◌, ◌≤◌, Bool, true, false, List, [], ◌∷◌, ◌++◌, length, arith, Option, Some, None}
+-- Where no class above reaches itself, the fold along supertypes is the same at each depth from
+-- the number of classes on.
+use Rattle.std.proofs.Common.{◌≡◌, refl, sym, ap, subst, ◌∙◌, ℕ, zero, suc, ◌+◌, ◌-◌, ◌≤◌, Bool}
+use Rattle.std.proofs.Common.{true, false, List, [], ◌∷◌, ◌++◌, length, arith, Option, Some, None}
 use Rattle.std.specs.Prelude.{option_and_then, option_map, option_to_list}
 use Rattle.std.specs.List.{list_any, filter_map, cons_option, IsDistinct}
 use Rattle.std.specs.Set.{is_member}
@@ -9,7 +10,8 @@ use Rattle.std.proofs.Math.Nat.{add-suc}
 use Rattle.std.proofs.lemmas.Bool.{false_from_ne_true}
 use Rattle.std.proofs.lemmas.Map.Made.{length-le_from_is_member}
 use Rattle.class_views.specs.Supertypes.{Hierarchy, StepOf, step_over, fold_at}
-use Rattle.class_views.proofs.Ways.{In, first, later, any_in, all_fail, Way, here, along, joins, IsThere}
+use Rattle.class_views.proofs.Ways.{In, first, later, any_in, all_fail, Way, here, along, joins}
+use Rattle.class_views.proofs.Ways.{IsThere}
 
 pub in_front : {A : Type 0} (x : A) (xs ys : List A) → In x xs → In x (xs ++ ys)
 in_front x [] ys at = elim at [ ]
@@ -110,10 +112,12 @@ module _ {Name Class : Type 0} (h : Hierarchy Name Class) where
       few vs distinct there =
           length-le_from_is_member laws vs names distinct (λ q t. by q (any_in (same q) vs t))
         where
-          by : (q : Name) → (v : Name) × In v vs × (same q v ≡ true) → is_member same names q ≡ true
+          by : (q : Name) → (v : Name) × In v vs × (same q v ≡ true) → is_member same names q
+              ≡ true
           by q found =
               listed q
-              (subst (IsThere h.look above) (sym (means q found.0 found.2)) (there found.0 found.1))
+              (subst (IsThere h.look above) (sym (means q found.0 found.2))
+              (there found.0 found.1))
 
       longer : (a : Name) (vs : List Name) → list_any (same a) vs ≡ false → IsDistinct same vs →
           IsDistinct same (a ∷ vs)

@@ -1,15 +1,16 @@
--- A file of the stripped description has the pool of the description's file, and of the bytes of the members those of the members that stay.
-use Rattle.std.proofs.Common.{◌≡◌, ℕ, ◌+◌, ◌<◌, ◌^◌, ◌&&◌, not, List, ◌++◌, length, refl, ap, ◌∙◌, sym, subst, append_assoc}
+-- A file of the stripped description has the pool of the description's file, and of the bytes of
+-- the members those of the members that stay.
+use Rattle.std.proofs.Common.{◌≡◌, ℕ, ◌+◌, ◌<◌, ◌^◌, List, ◌++◌, length, refl, ap, ◌∙◌, sym}
+use Rattle.std.proofs.Common.{subst, append_assoc}
 use Rattle.std.specs.List.{flat_map}
 use Rattle.std.specs.Int.{w16, w32, to_be_bytes}
 use Rattle.class_desc.specs.declared.class.ClassDesc.{ClassDesc}
 use Rattle.class_desc.specs.Pool.{Entry, entry_bytes}
-use Rattle.class_desc.specs.ClassFile.{FieldSpells, MethodSpells, is_key, field_key, method_key, Parts, magic, file_bytes, IsValid}
-use Rattle.class_views.specs.Strip.{stays_field, stays_method, strip_class, is_class_initialiser, strip_view}
-use Rattle.class_views.specs.Flags.{is_private}
-use Rattle.class_views.specs.View.{MemberView, View, view_of_field, view_of_method, view_of_desc}
+use Rattle.class_desc.specs.ClassFile.{FieldSpells, MethodSpells, is_key, field_key, method_key}
+use Rattle.class_desc.specs.ClassFile.{Parts, magic, file_bytes, IsValid}
+use Rattle.class_views.specs.Strip.{stays_field, stays_method, strip_attribute, strip_class}
 use Rattle.lemmas.proofs.Lists.{all_append, all_front, all_behind}
-use Rattle.class_views.proofs.Filtered.{AreBytes, distinct_stay, counted_stay, map_filter}
+use Rattle.class_views.proofs.Filtered.{AreBytes, distinct_stay, counted_stay}
 
 -- the parts of a file in front of its members
 before_members : ClassDesc → List Entry → Parts → List ℕ
@@ -24,10 +25,14 @@ regrouped : (a b c d e f g h i j rest : List ℕ)
     ≡ (a ++ (b ++ (c ++ (d ++ (e ++ (f ++ (g ++ (h ++ (i ++ j))))))))) ++ rest
 regrouped a b c d e f g h i j rest = simp append_assoc
 
-in_two : (d : ClassDesc) (pool : List Entry) (p : Parts) → file_bytes d pool p ≡ before_members d pool p ++ (p.fields ++ (p.methods ++ p.attributes))
+in_two : (d : ClassDesc) (pool : List Entry) (p : Parts) → file_bytes d pool p
+    ≡ before_members d pool p ++ (p.fields ++ (p.methods ++ p.attributes))
 unfolding before_members
 in_two d pool p =
-    regrouped (to_be_bytes w32 magic) (to_be_bytes w16 d.minor) (to_be_bytes w16 d.major) (to_be_bytes w16 (length pool + 1)) (flat_map entry_bytes pool) (to_be_bytes w16 d.flags) (to_be_bytes w16 p.this) (to_be_bytes w16 p.super) (to_be_bytes w16 (length p.interfaces)) (flat_map (to_be_bytes w16) p.interfaces) (p.fields ++ (p.methods ++ p.attributes))
+    regrouped (to_be_bytes w32 magic) (to_be_bytes w16 d.minor) (to_be_bytes w16 d.major)
+    (to_be_bytes w16 (length pool + 1)) (flat_map entry_bytes pool) (to_be_bytes w16 d.flags)
+    (to_be_bytes w16 p.this) (to_be_bytes w16 p.super) (to_be_bytes w16 (length p.interfaces))
+    (flat_map (to_be_bytes w16) p.interfaces) (p.fields ++ (p.methods ++ p.attributes))
 
 pub stripped_valid : (d : ClassDesc) → IsValid d → IsValid (strip_class d)
 unfolding before_members
@@ -35,15 +40,23 @@ stripped_valid d (bytes, all, (pool, s)) =
     let p = s.parts in
     let IsByte = λ (b : ℕ). b < 2 ^ 8 in
     let front = before_members d pool p in
-    let parts : AreBytes (front ++ (p.fields ++ (p.methods ++ p.attributes))) = subst AreBytes (s.whole ∙ in_two d pool p) all in
-    let members : AreBytes (p.fields ++ (p.methods ++ p.attributes)) = all_behind IsByte front (p.fields ++ (p.methods ++ p.attributes)) parts in
-    let behind : AreBytes (p.methods ++ p.attributes) = all_behind IsByte p.fields (p.methods ++ p.attributes) members in
-    let fields = counted_stay stays_field (FieldSpells pool) d.fields p.fields (all_front IsByte p.fields (p.methods ++ p.attributes) members) s.fields in
-    let methods = counted_stay stays_method (MethodSpells pool) d.methods p.methods (all_front IsByte p.methods p.attributes behind) s.methods in
+    let parts : AreBytes (front ++ (p.fields ++ (p.methods ++ p.attributes))) =
+    subst AreBytes (s.whole ∙ in_two d pool p) all in
+    let members : AreBytes (p.fields ++ (p.methods ++ p.attributes)) =
+    all_behind IsByte front (p.fields ++ (p.methods ++ p.attributes)) parts in
+    let behind : AreBytes (p.methods ++ p.attributes) =
+    all_behind IsByte p.fields (p.methods ++ p.attributes) members in
+    let fields = counted_stay stays_field (FieldSpells pool) d.fields p.fields
+    (all_front IsByte p.fields (p.methods ++ p.attributes) members) s.fields in
+    let methods = counted_stay stays_method (MethodSpells pool) d.methods p.methods
+    (all_front IsByte p.methods p.attributes behind) s.methods in
     let left : Parts = record p { fields = fields.0; methods = methods.0 } in
     let fit : AreBytes (front ++ (fields.0 ++ (methods.0 ++ p.attributes))) =
-    all_append IsByte front (fields.0 ++ (methods.0 ++ p.attributes)) (all_front IsByte front (p.fields ++ (p.methods ++ p.attributes)) parts)
-    (all_append IsByte fields.0 (methods.0 ++ p.attributes) fields.1 (all_append IsByte methods.0 p.attributes methods.1 (all_behind IsByte p.methods p.attributes behind))) in (
+    all_append IsByte front (fields.0 ++ (methods.0 ++ p.attributes))
+    (all_front IsByte front (p.fields ++ (p.methods ++ p.attributes)) parts)
+    (all_append IsByte fields.0 (methods.0 ++ p.attributes) fields.1
+    (all_append IsByte methods.0 p.attributes methods.1
+    (all_behind IsByte p.methods p.attributes behind))) in (
       file_bytes (strip_class d) pool left,
       subst AreBytes (sym (in_two (strip_class d) pool left)) fit,
       (
@@ -64,15 +77,15 @@ stripped_valid d (bytes, all, (pool, s)) =
           fields = fields.2;
           distinct_fields = distinct_stay stays_field field_key is_key d.fields s.distinct_fields;
           methods = methods.2;
-          distinct_methods = distinct_stay stays_method method_key is_key d.methods s.distinct_methods;
-          attributes = s.attributes;
+          distinct_methods = distinct_stay stays_method method_key is_key d.methods
+              s.distinct_methods;
+          attributes = record {
+            raw = s.attributes.raw;
+            count = s.attributes.count;
+            whole = s.attributes.whole;
+            each = s.attributes.each;
+            none_kept = ap (flat_map (strip_attribute d)) s.attributes.none_kept;
+          };
         },
       ),
     )
-
-pub stripped_view : (d : ClassDesc) → view_of_desc (strip_class d) ≡ strip_view (view_of_desc d)
-stripped_view d =
-    let view : List MemberView → List MemberView → View = λ fields methods. record (view_of_desc d) { fields = fields; methods = methods } in
-    let fields = map_filter view_of_field (λ f. not (is_private f.flags)) d.fields in
-    let methods = map_filter view_of_method (λ m. not (is_private m.flags) && not (is_class_initialiser m)) d.methods in
-    ap (λ f. view f (view_of_desc (strip_class d)).methods) fields ∙ ap (λ m. view (strip_view (view_of_desc d)).fields m) methods

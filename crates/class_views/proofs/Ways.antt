@@ -1,6 +1,8 @@
 -- Ways along supertypes: from a class to one above it. What some way leads to, a way without
 -- repeats leads to, so that the number of classes is depth enough.
-use Rattle.std.proofs.Common.{◌≡◌, refl, sym, subst, ◌∙◌, ℕ, zero, suc, ◌≤◌, Bool, true, false, ◌||◌, ◌⊎◌, inl, inr, List, [], ◌∷◌, length, arith, Option, Some, None}
+use Rattle.std.proofs.Common.{◌≡◌, refl, sym, subst, ◌∙◌, ℕ, zero, suc, ◌≤◌, Bool, true, false}
+use Rattle.std.proofs.Common.{◌||◌, ◌⊎◌, inl, inr, List, [], ◌∷◌, length, arith, Option, Some}
+use Rattle.std.proofs.Common.{None}
 use Rattle.std.specs.Option.{option_map_or}
 use Rattle.std.specs.List.{list_any, AllByRecursion, IsDistinct}
 use Rattle.std.specs.Set.{is_member}
@@ -85,7 +87,8 @@ module _ {Name Class : Type 0} (look : Name → Option Class) (above : Class →
     unfoldable pub leads_at : ℕ → Name → Name → Bool
     leads_at zero a b = false
     leads_at (suc depth) a b =
-        option_map_or (λ c. same a b || list_any (λ s. leads_at depth s b) (above c)) (look a) false
+        option_map_or (λ c. same a b || list_any (λ s. leads_at depth s b) (above c)) (look a)
+        false
 
     module _ (means : (a b : Name) → same a b ≡ true → a ≡ b) where
       abbrev pub ShortWay : ℕ → Name → Name → Type 0
@@ -153,7 +156,8 @@ module _ {Name Class : Type 0} (look : Name → Option Class) (above : Class →
         behind a b x [] w distinct at = elim w [ ]
         behind a b x (y ∷ []) (here e) distinct first = (a ∷ [], here e, distinct)
         behind a b x (y ∷ []) (here e) distinct (later at) = elim at [ ]
-        behind a b x (y ∷ names) (along e at w) distinct first = (a ∷ names, along e at w, distinct)
+        behind a b x (y ∷ names) (along e at w) distinct first =
+            (a ∷ names, along e at w, distinct)
         behind a b x (y ∷ names) (along {s = s} e at w) distinct (later more) =
             behind s b x names w distinct.1 more
 

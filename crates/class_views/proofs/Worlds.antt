@@ -1,5 +1,7 @@
 -- Walks and chains of a world, as ways along supertypes.
-use Rattle.std.proofs.Common.{◌≡◌, refl, sym, ap, subst, ◌∙◌, arith, ℕ, zero, suc, ◌≤◌, Bool, true, false, cond, ◌&&◌, ◌||◌, ◌⊎◌, inl, inr, List, [], ◌∷◌, ◌++◌, length, map, append-nil, Option, Some, None}
+use Rattle.std.proofs.Common.{◌≡◌, refl, sym, ap, subst, ◌∙◌, arith, ℕ, zero, suc, ◌≤◌, Bool}
+use Rattle.std.proofs.Common.{true, false, cond, ◌&&◌, ◌||◌, ◌⊎◌, inl, inr, List, [], ◌∷◌, ◌++◌}
+use Rattle.std.proofs.Common.{length, map, append-nil, Option, Some, None}
 use Rattle.std.specs.Prelude.{find, option_and_then, option_map, option_to_list, unwrap_or}
 use Rattle.std.specs.Option.{option_map_or}
 use Rattle.std.specs.List.{list_any, filter_map, flat_map, cons_option}
@@ -14,8 +16,12 @@ use lib.Pointwise.{bytes_decides}
 use Rattle.java_names.specs.Names.{is_text}
 use Rattle.class_views.specs.View.{View}
 use Rattle.class_views.specs.Supertypes.{step_over, fold_at}
-use Rattle.class_views.specs.World.{World, is_named, class_of, hierarchy, walk_step, walk_at, walk, walk_over, chain_step, chain_at, chain, joined, is_among, supertypes, leads_to, reaches_itself, ring_of, HasNoRing, made_at, made, Step}
-use Rattle.class_views.proofs.Ways.{In, first, later, any_in, in_any, joins, leads_at, way_of, leads_by_way, leads_steadily}
+use Rattle.class_views.specs.World.{World, is_named, class_of, hierarchy, walk_step, walk_at}
+use Rattle.class_views.specs.World.{walk, walk_over, chain_step, chain_at, chain, joined}
+use Rattle.class_views.specs.World.{is_among, supertypes, leads_to, reaches_itself, ring_of}
+use Rattle.class_views.specs.World.{HasNoRing, made_at, made, Step}
+use Rattle.class_views.proofs.Ways.{In, first, later, any_in, in_any, joins, leads_at, way_of}
+use Rattle.class_views.proofs.Ways.{leads_by_way, leads_steadily}
 use Rattle.class_views.proofs.Settled.{Leads, Climbs, IsFree, free_above, settled}
 
 -- ---- names
@@ -159,7 +165,8 @@ module _ (world : World) where
   chain_leads (suc depth) from to = by (class_of world from) refl (λ s. chain_leads depth s to)
     where
       step : View → List View
-      step c = step_over (hierarchy world) chain_step (fold_at (hierarchy world) chain_step depth) c
+      step c = step_over (hierarchy world) chain_step (fold_at (hierarchy world) chain_step depth)
+          c
 
       test : List ℕ → Bool
       test s = chains_to depth s to
@@ -295,7 +302,8 @@ module _ (world : World) where
       subst (λ n. leads_to world name n && reaches_itself world n ≡ true) (sym named)
       (and_from (leads_to world name b) (reaches_itself world b) (way_leads_to name b leads)
       (climbs_reaches b climbs)) in
-      none_found (λ c. leads_to world name c.name && reaches_itself world c.name) climbs.class world
+      none_found (λ c. leads_to world name c.name && reaches_itself world c.name) climbs.class
+      world
       none (found_in world b climbs.class climbs.found) test
 
   pub no_ring : (name : List ℕ) → IsFree (hierarchy world) name → HasNoRing world name

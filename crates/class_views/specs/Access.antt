@@ -1,10 +1,12 @@
 -- What a client may access (JVMS 5.4.4). It has a nest of its own, so that nothing private is
--- accessible; the further condition on the class that a protected reference names is not looked at.
+-- accessible; the further condition on the class that a protected reference names is not looked
+-- at.
 use Rattle.std.specs.Prelude.{ℕ, ◌==◌, ◌||◌, Bool, true, false, List, Option}
 use Rattle.std.specs.Option.{option_map_or}
 use Rattle.std.specs.List.{before_last}
 use Rattle.java_names.specs.Names.{is_text}
-use Rattle.class_views.specs.Flags.{has_flag, Access, Private, Public, Protected, InPackage, access_of}
+use Rattle.class_views.specs.Flags.{has_flag, Access, Private, Public, Protected, InPackage}
+use Rattle.class_views.specs.Flags.{access_of}
 use Rattle.class_views.specs.View.{View, MemberView}
 use Rattle.class_views.specs.World.{World, chain, is_among}
 

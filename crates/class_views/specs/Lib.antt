@@ -1,10 +1,12 @@
 pub mod Access
 pub mod Alike
 pub mod Flags
+pub mod Kept
 pub mod Membership
 pub mod OneStep
 pub mod Query
 pub mod Resolution
+pub mod Staying
 pub mod Strip
 pub mod Supertypes
 pub mod View

@@ -1,14 +1,17 @@
 -- The members of a class: what it declares, else what it inherits (JLS 8.2, 8.3, 8.4.8, 9.4.1).
--- Methods are compared by erased descriptors. That what comes by the superclass, abstract or not, and
--- isn't overridden drops all that comes by superinterfaces alone is this project's own rule; so is it
--- that an interface has what java/lang/Object gives, its superclass, also what isn't public there.
-use Rattle.std.specs.Prelude.{ℕ, ◌&&◌, ◌||◌, Bool, true, false, not, List, [], ◌∷◌, length, map, filter, codes, Option, unwrap_or, if◌then◌else◌}
+-- Methods are compared by erased descriptors. That what comes by the superclass, abstract or not,
+-- and isn't overridden drops all that comes by superinterfaces alone is this project's own rule;
+-- so is it that an interface has what java/lang/Object gives, its superclass, also what isn't
+-- public there.
+use Rattle.std.specs.Prelude.{ℕ, ◌&&◌, ◌||◌, Bool, true, false, not, List, [], ◌∷◌, length, map}
+use Rattle.std.specs.Prelude.{filter, codes, Option, unwrap_or, if◌then◌else◌}
 use Rattle.std.specs.Option.{option_map_or}
 use Rattle.std.specs.List.{list_any, flat_map, enumerate_from}
 use Rattle.java_names.specs.Names.{is_text}
 use Rattle.class_views.specs.View.{View, MemberView}
 use Rattle.class_views.specs.World.{World, Step, made_at, walk, each_once, is_interface, is_below}
-use Rattle.class_views.specs.Flags.{Access, Private, Public, Protected, InPackage, access_of, is_static}
+use Rattle.class_views.specs.Flags.{Access, Private, Public, Protected, InPackage, access_of}
+use Rattle.class_views.specs.Flags.{is_static}
 use Rattle.class_views.specs.Access.{package_of}
 use Rattle.class_views.specs.Resolution.{NameAndType, is_meant}
 
@@ -89,8 +92,8 @@ either a b k = a k || b k
 abbrev pub remaining : World → List Candidate → Members → Members → Members
 remaining world all set others k = set k && not (is_overridden world all others k)
 
--- of methods that come by the superclass and by the superinterfaces first those go that another one
--- overrides
+-- of methods that come by the superclass and by the superinterfaces first those go that another
+-- one overrides
 abbrev pub left : World → List Candidate → Members → Members → Members
 left world all by_super by_interface =
     remaining world all (either by_super by_interface) (either by_super by_interface)
@@ -142,8 +145,8 @@ member_step world key all c super interfaces =
 abbrev pub nothing : Members
 nothing k = false
 
--- The members of a class, among these candidates: all that the classes of its walk declare have to be
--- among them, since what is chosen is sought there.
+-- The members of a class, among these candidates: all that the classes of its walk declare have
+-- to be among them, since what is chosen is sought there.
 unfoldable pub members_at : World → Key → List Candidate → ℕ → List ℕ → Members
 members_at world key all depth name =
     unwrap_or (made_at (member_step world key all) world depth name) nothing

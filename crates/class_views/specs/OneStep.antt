@@ -1,11 +1,12 @@
--- The members of a class from those of its supertypes; and, if it declares none, without what those
--- of one of its two sides do to each other.
+-- The members of a class from those of its supertypes; and, if it declares none, without what
+-- those of one of its two sides do to each other.
 use Rattle.std.specs.Prelude.{◌≡◌, ◌&&◌, true, false, List, filter, if◌then◌else◌}
 use Rattle.std.specs.Option.{option_map_or}
 use Rattle.std.specs.List.{list_any}
 use Rattle.class_views.specs.View.{View}
 use Rattle.class_views.specs.World.{World}
-use Rattle.class_views.specs.Membership.{Key, Candidate, Members, declared, inherits, is_empty, own, chosen_of, is_overridden, members_among, remaining}
+use Rattle.class_views.specs.Membership.{Key, Candidate, Members, declared, inherits, is_empty}
+use Rattle.class_views.specs.Membership.{own, chosen_of, is_overridden, members_among, remaining}
 
 abbrev pub inherited_by_superclass : World → Key → List Candidate → View → Members
 inherited_by_superclass world key all c k =
@@ -30,8 +31,8 @@ members_over world key all c =
     then inherited_from_supertypes world key all c
     else own c
 
--- what came by the superclass and is above nothing that came by a superinterface, if there is such;
--- else what came by a superinterface and is above nothing else that did
+-- what came by the superclass and is above nothing that came by a superinterface, if there is
+-- such; else what came by a superinterface and is above nothing else that did
 abbrev pub in_one_step : World → List Candidate → Members → Members → Members
 in_one_step world all by_super by_interface =
     if list_any (remaining world all by_super by_interface) all

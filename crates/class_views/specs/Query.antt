@@ -1,6 +1,7 @@
 -- What a client asks of classes, and what it finds. The queries and the form of the answers are
 -- this project's own.
-use Rattle.std.specs.Prelude.{ℕ, ◌&&◌, ◌≡◌, Bool, true, false, List, [], ◌∷◌, find, Option, Some, None, option_map, if◌then◌else◌}
+use Rattle.std.specs.Prelude.{ℕ, ◌&&◌, ◌≡◌, Bool, true, false, List, [], ◌∷◌, find, Option, Some}
+use Rattle.std.specs.Prelude.{None, option_map, if◌then◌else◌}
 use Rattle.std.specs.Option.{option_or}
 use Rattle.std.specs.List.{list_any, list_all}
 use Rattle.class_desc.specs.declared.value.Value.{Value}
@@ -10,7 +11,9 @@ use Rattle.class_views.specs.View.{View, MemberView}
 use Rattle.class_views.specs.World.{World, class_of, is_interface, walk, ring_of}
 use Rattle.class_views.specs.Flags.{is_private, is_final, is_abstract}
 use Rattle.class_views.specs.Access.{Client, is_accessible_class, is_accessible}
-use Rattle.class_views.specs.Resolution.{Declared, NameAndType, is_meant, method_in, field_resolution, method_resolution, interface_method_resolution}
+use Rattle.class_views.specs.Resolution.{Declared, NameAndType, is_meant, method_in}
+use Rattle.class_views.specs.Resolution.{field_resolution, method_resolution}
+use Rattle.class_views.specs.Resolution.{interface_method_resolution}
 use Rattle.class_views.specs.Membership.{Candidate, member_fields, member_methods}
 
 -- what annotations are asked of

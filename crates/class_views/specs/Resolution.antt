@@ -1,14 +1,16 @@
 -- Which field or method a name and a descriptor stand for (JVMS 5.4.3.2 to 5.4.3.4).
--- Where a class declares two of one name and descriptor, the first counts; of methods that an interface
--- gives to those below it the first that it can give. Signature-polymorphic methods (JVMS 2.9.3) are
--- methods as all others.
-use Rattle.std.specs.Prelude.{ℕ, ◌&&◌, Bool, not, List, [], ◌∷◌, filter, find, Option, Some, None, option_map, option_to_list, if◌then◌else◌}
+-- Where a class declares two of one name and descriptor, the first counts; of methods that an
+-- interface gives to those below it the first that it can give. Signature-polymorphic methods
+-- (JVMS 2.9.3) are methods as all others.
+use Rattle.std.specs.Prelude.{ℕ, ◌&&◌, Bool, not, List, [], ◌∷◌, filter, find, Option, Some, None}
+use Rattle.std.specs.Prelude.{option_map, option_to_list, if◌then◌else◌}
 use Rattle.std.specs.List.{list_any, filter_map}
 use Rattle.std.specs.Option.{option_or}
 use Rattle.java_names.specs.Names.{is_text}
 use Rattle.class_desc.specs.ClassFile.{object_name}
 use Rattle.class_views.specs.View.{View, MemberView}
-use Rattle.class_views.specs.World.{World, class_of, is_interface, walk, chain, supers_of, is_below}
+use Rattle.class_views.specs.World.{World, class_of, is_interface, walk, chain, supers_of}
+use Rattle.class_views.specs.World.{is_below}
 use Rattle.class_views.specs.Flags.{has_flag, is_private, is_static, is_abstract}
 
 -- a member, with the class that declares it

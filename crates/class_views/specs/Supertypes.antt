@@ -21,7 +21,9 @@ step_over h step above c =
     step c (option_and_then above (h.superclass c)) (filter_map above (h.superinterfaces c))
 
 -- what a step makes of the class of a name, up to a depth; none where no class is there
-unfoldable pub fold_at : {Name Class Made : Type 0} → Hierarchy Name Class → StepOf Class Made → ℕ →
+unfoldable pub fold_at : {Name Class Made : Type 0} → Hierarchy Name Class → StepOf Class Made →
+    ℕ →
     Name → Option Made
 fold_at h step zero name = None
-fold_at h step (suc depth) name = option_map (step_over h step (fold_at h step depth)) (h.look name)
+fold_at h step (suc depth) name =
+    option_map (step_over h step (fold_at h step depth)) (h.look name)

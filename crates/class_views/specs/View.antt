@@ -1,6 +1,7 @@
 -- What of a class its clients can ask for (JVMS 4), without bytes. Of each kind of attribute the
 -- first at its place counts; a list is empty where its attribute is absent.
-use Rattle.std.specs.Prelude.{ℕ, Bool, true, false, List, [], ◌∷◌, ◌++◌, length, map, find, ◌==◌, Option, Some, None, is_some, option_map, unwrap_or, if◌then◌else◌}
+use Rattle.std.specs.Prelude.{ℕ, Bool, true, false, List, [], ◌∷◌, ◌++◌, length, map, find, ◌==◌}
+use Rattle.std.specs.Prelude.{Option, Some, None, is_some, option_map, unwrap_or, if◌then◌else◌}
 use Rattle.std.specs.List.{list_all}
 use Rattle.std.specs.Option.{option_or}
 use Rattle.class_desc.specs.declared.value.Value.{Value}
@@ -134,6 +135,13 @@ listed held attributes = unwrap_or (first_held held attributes) []
 
 abbrev pub has : (Layer → Option (Unit {0})) → List Layer → Bool
 has held attributes = is_some (first_held held attributes)
+
+-- the same of attributes as they stand
+abbrev pub first_attribute : {A : Type 0} → (Layer → Option A) → List Attr → Option A
+first_attribute held attributes = first_held held (map out-Attr attributes)
+
+abbrev pub listed_in : {A : Type 0} → (Layer → Option (List A)) → List Attr → List A
+listed_in held attributes = listed held (map out-Attr attributes)
 
 -- ---- the views, from what the attributes of the place hold
 

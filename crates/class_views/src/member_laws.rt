@@ -2,11 +2,12 @@ ghost use Rattle.std.specs.Prelude.{◌≡◌, ℕ, true, List, filter, Some};
 ghost use Rattle.class_views.specs.View.{View};
 ghost use Rattle.class_views.specs.World.{World, class_of, HasNoRing};
 ghost use Rattle.class_views.specs.Resolution.{NameAndType};
-ghost use Rattle.class_views.specs.Membership.{Key, MethodKey, Candidate, declared, is_empty, members_among};
+ghost use Rattle.class_views.specs.Membership.{Key, MethodKey, Candidate, declared, is_empty};
+ghost use Rattle.class_views.specs.Membership.{members_among};
 ghost use Rattle.class_views.specs.OneStep.{AreApart, members_over, inherited_in_one_step};
 
-/// Where no class above it reaches itself, the members of a class, among whatever candidates, are its
-/// own, or come from the members of its supertypes, and no depth stands in this.
+/// Where no class above it reaches itself, the members of a class, among whatever candidates, are
+/// its own, or come from the members of its supertypes, and no depth stands in this.
 pub fn members_come_from_supertypes()
     ensures { (world : World) (key : Key) (all : List Candidate) (name : List ℕ) (c : View) →
         HasNoRing world name → class_of world name ≡ Some c →

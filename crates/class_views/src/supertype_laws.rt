@@ -2,7 +2,8 @@ ghost use Rattle.std.specs.Prelude.{◌≡◌, ◌≤◌, ℕ, Bool, List, lengt
 ghost use Rattle.class_views.specs.View.{View};
 ghost use Rattle.class_views.specs.Supertypes.{Hierarchy, StepOf, fold_at};
 ghost use Rattle.class_views.specs.Alike.{AreAlike, Keeps, Both, holds};
-ghost use Rattle.class_views.specs.World.{World, Step, class_of, made, made_at, walk, walk_over, chain_at, chain, is_among, HasNoRing};
+ghost use Rattle.class_views.specs.World.{World, Step, class_of, made, made_at, walk, walk_over};
+ghost use Rattle.class_views.specs.World.{chain_at, chain, is_among, HasNoRing};
 
 /// Where no class above that of a name reaches itself, each depth from the number of classes on
 /// gives the same, whatever the step.
@@ -33,8 +34,8 @@ pub fn walks_come_from_supertypes()
         walk world name ≡ walk_over world c }
 {}
 
-/// A class stands on a chain at each depth from the number of classes on, or at none of these, also
-/// in a ring.
+/// A class stands on a chain at each depth from the number of classes on, or at none of these,
+/// also in a ring.
 pub fn chains_are_steady()
     ensures { (world : World) (name above : List ℕ) (depth : ℕ) →
         length world ≤ depth →

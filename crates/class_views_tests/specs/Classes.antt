@@ -5,7 +5,9 @@ use Rattle.class_views.specs.View.{View, MemberView}
 use Rattle.class_views.specs.World.{World}
 use Rattle.class_views.specs.Access.{Client}
 use Rattle.class_views.specs.Resolution.{NameAndType}
-use Rattle.class_views.specs.Query.{Query, FieldQuery, MethodQuery, InterfaceMethodQuery, MemberFieldQuery, MemberMethodQuery, Answer, Found, MemberFound, ask}
+use Rattle.class_views.specs.Query.{Query, FieldQuery, MethodQuery, InterfaceMethodQuery}
+use Rattle.class_views.specs.Query.{MemberFieldQuery, MemberMethodQuery, Answer, Found}
+use Rattle.class_views.specs.Query.{MemberFound, ask}
 
 -- a member without attributes
 abbrev pub member : ℕ → List ℕ → List ℕ → MemberView
@@ -34,7 +36,8 @@ abbrev pub method : ℕ → List ℕ → MemberView
 method flags name = member flags (codes "()V") name
 
 -- a class without attributes
-abbrev pub type : ℕ → List ℕ → Option (List ℕ) → List (List ℕ) → List MemberView → List MemberView →
+abbrev pub type : ℕ → List ℕ → Option (List ℕ) → List (List ℕ) → List MemberView →
+    List MemberView →
     View
 type flags name super_name interfaces fields methods = record {
   name = name;
@@ -53,7 +56,8 @@ type flags name super_name interfaces fields methods = record {
 
 -- public, and below java/lang/Object
 abbrev pub class : List ℕ → List (List ℕ) → List MemberView → List MemberView → View
-class name interfaces fields methods = type 0x0021 name (Some object_name) interfaces fields methods
+class name interfaces fields methods =
+    type 0x0021 name (Some object_name) interfaces fields methods
 
 abbrev pub object : List MemberView → View
 object methods = type 0x0021 object_name None [] [] methods

@@ -4,9 +4,13 @@ use Rattle.class_desc.specs.declared.value.Value.{Value}
 use Rattle.class_desc.specs.declared.value.Value.TheVariants.{Integer, Str}
 use Rattle.class_desc.specs.declared.bound_annotations.Ann.{Ann}
 use Rattle.class_views.specs.View.{View, MemberView}
-use Rattle.class_views.specs.Query.{Query, Part, ClassQuery, SupersQuery, ConstantQuery, AnnotationsQuery, Whole, FieldPart, MethodPart, Answer, Found, ClassFound, ConstantFound, AnnotationsFound, NotFound, NotAccessible}
+use Rattle.class_views.specs.Query.{Query, Part, ClassQuery, SupersQuery, ConstantQuery}
+use Rattle.class_views.specs.Query.{AnnotationsQuery, Whole, FieldPart, MethodPart, Answer, Found}
+use Rattle.class_views.specs.Query.{ClassFound, ConstantFound, AnnotationsFound, NotFound}
+use Rattle.class_views.specs.Query.{NotAccessible}
 use Rattle.class_views_tests.specs.Annotations.{annotation}
-use Rattle.class_views_tests.specs.Classes.{Example, stranger, of_package, call, int_field, method, class, type}
+use Rattle.class_views_tests.specs.Classes.{Example, stranger, of_package, call, int_field}
+use Rattle.class_views_tests.specs.Classes.{method, class, type}
 
 -- a field of type int with a constant
 abbrev pub constant_field : ℕ → List ℕ → Value → MemberView
@@ -71,10 +75,18 @@ abbrev pub declared_examples : List Example
 declared_examples =
     -- a class and its supertypes, without its members
     record {
-      world = in_package_p (int_field 0x0001 (codes "x") ∷ []) (method 0x0001 (codes "m") ∷ []) ∷ [];
-      rows =
-          (of_package (codes "p"), ClassQuery (codes "p/A"), Found (ClassFound (in_package_p [] [])))
-          ∷ (of_package (codes "p"), SupersQuery (codes "p/A"), Found (ClassFound (in_package_p [] [])))
+      world = in_package_p (int_field 0x0001 (codes "x") ∷ []) (method 0x0001 (codes "m") ∷ [])
+          ∷ [];
+      rows = (
+        of_package (codes "p"),
+        ClassQuery (codes "p/A"),
+        Found (ClassFound (in_package_p [] [])),
+      )
+          ∷ (
+            of_package (codes "p"),
+            SupersQuery (codes "p/A"),
+            Found (ClassFound (in_package_p [] [])),
+          )
           ∷ (stranger, ClassQuery (codes "p/A"), NotAccessible (codes "p/A"))
           ∷ (of_package (codes "p/q"), SupersQuery (codes "p/A"), NotAccessible (codes "p/A"))
           ∷ (stranger, ClassQuery (codes "A"), NotFound)
@@ -99,7 +111,11 @@ declared_examples =
       rows =
           (stranger, annotations_of Whole, annotations_answer of_class)
           ∷ (stranger, annotations_of (FieldPart (codes "x")), annotations_answer of_field)
-          ∷ (stranger, annotations_of (MethodPart (call (codes "m"))), annotations_answer of_method)
+          ∷ (
+            stranger,
+            annotations_of (MethodPart (call (codes "m"))),
+            annotations_answer of_method,
+          )
           ∷ (stranger, annotations_of (FieldPart (codes "h")), NotAccessible (codes "A"))
           ∷ (stranger, annotations_of (FieldPart (codes "y")), NotFound)
           ∷ (stranger, annotations_of (MethodPart (call (codes "x"))), NotFound)

@@ -1,7 +1,10 @@
 -- Where fields are sought: resolution (JVMS 5.4.3.2) and membership (JLS 8.3).
 use Rattle.std.specs.Prelude.{List, [], ◌∷◌, codes}
-use Rattle.class_views.specs.Query.{FieldQuery, Found, MemberFound, NotFound, NotAccessible, Ambiguous}
-use Rattle.class_views_tests.specs.Classes.{Example, stranger, of_package, extending, member, int_field, class, subclass, interface, field_x, member_x, found_x}
+use Rattle.class_views.specs.Query.{FieldQuery, Found, MemberFound, NotFound, NotAccessible}
+use Rattle.class_views.specs.Query.{Ambiguous}
+use Rattle.class_views_tests.specs.Classes.{Example, stranger, of_package, extending, member}
+use Rattle.class_views_tests.specs.Classes.{int_field, class, subclass, interface, field_x}
+use Rattle.class_views_tests.specs.Classes.{member_x, found_x}
 
 abbrev pub field_examples : List Example
 field_examples =
@@ -61,7 +64,8 @@ field_examples =
     -- two of one name and descriptor, the first of them private
     ∷ record {
       world =
-          class (codes "A") [] (int_field 0x0002 (codes "x") ∷ int_field 0x0001 (codes "x") ∷ []) []
+          class (codes "A") [] (int_field 0x0002 (codes "x") ∷ int_field 0x0001 (codes "x") ∷ [])
+          []
           ∷ subclass (codes "B") (codes "A") [] [] []
           ∷ [];
       rows =

@@ -2,7 +2,8 @@
 use Rattle.std.specs.Prelude.{◌≡◌, ℕ, Bool, true, false, List, [], ◌∷◌, map, codes}
 use Rattle.class_views.specs.World.{World}
 use Rattle.class_views.specs.Query.{Query, is_hidden}
-use Rattle.class_views_tests.specs.Classes.{int_field, method, class, subclass, field_x, member_x, method_m, member_m}
+use Rattle.class_views_tests.specs.Classes.{int_field, method, class, subclass, field_x, member_x}
+use Rattle.class_views_tests.specs.Classes.{method_m, member_m}
 
 abbrev pub with_private : World
 with_private =

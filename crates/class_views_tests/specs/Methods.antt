@@ -3,8 +3,11 @@ use Rattle.std.specs.Prelude.{List, [], ◌∷◌, codes}
 use Rattle.class_desc.specs.ClassFile.{object_name}
 use Rattle.class_views.specs.View.{MemberView}
 use Rattle.class_views.specs.Resolution.{NameAndType}
-use Rattle.class_views.specs.Query.{Query, MethodQuery, InterfaceMethodQuery, MemberMethodQuery, NotFound, NotAccessible, Ambiguous, WrongKind}
-use Rattle.class_views_tests.specs.Classes.{Example, stranger, of_package, extending, call, method, object, class, subclass, interface, method_m, interface_m, member_m, found_m, found_method}
+use Rattle.class_views.specs.Query.{Query, MethodQuery, InterfaceMethodQuery, MemberMethodQuery}
+use Rattle.class_views.specs.Query.{NotFound, NotAccessible, Ambiguous, WrongKind}
+use Rattle.class_views_tests.specs.Classes.{Example, stranger, of_package, extending, call}
+use Rattle.class_views_tests.specs.Classes.{method, object, class, subclass, interface, method_m}
+use Rattle.class_views_tests.specs.Classes.{interface_m, member_m, found_m, found_method}
 
 -- the question and the answer are about superinterfaces
 abbrev pub interface_examples : List Example
@@ -113,7 +116,8 @@ interface_examples =
       world =
           interface (codes "I") [] [] (method 0x0001 (codes "m") ∷ [])
           ∷ interface (codes "J") (codes "I" ∷ []) [] (method 0x0002 (codes "m") ∷ [])
-          ∷ interface (codes "K") [] [] (method 0x0002 (codes "m") ∷ method 0x0401 (codes "m") ∷ [])
+          ∷ interface (codes "K") [] []
+          (method 0x0002 (codes "m") ∷ method 0x0401 (codes "m") ∷ [])
           ∷ class (codes "C") (codes "J" ∷ []) [] []
           ∷ class (codes "D") (codes "K" ∷ []) [] []
           ∷ [];
@@ -270,11 +274,18 @@ class_examples =
           (method 0x0001 (codes "<init>") ∷ method 0x0008 (codes "<clinit>") ∷ [])
           ∷ subclass (codes "C") (codes "B") [] [] []
           ∷ [];
-      rows =
-          (stranger, MethodQuery (codes "C") constructor, found_method (codes "B") 0x0001 (codes "<init>"))
+      rows = (
+        stranger,
+        MethodQuery (codes "C") constructor,
+        found_method (codes "B") 0x0001 (codes "<init>"),
+      )
           ∷ (stranger, MemberMethodQuery (codes "C") constructor, NotFound)
           ∷ (stranger, MemberMethodQuery (codes "B") constructor, NotFound)
-          ∷ (stranger, MethodQuery (codes "B") initialiser, found_method (codes "B") 0x0008 (codes "<clinit>"))
+          ∷ (
+            stranger,
+            MethodQuery (codes "B") initialiser,
+            found_method (codes "B") 0x0008 (codes "<clinit>"),
+          )
           ∷ (stranger, MemberMethodQuery (codes "B") initialiser, NotFound)
           ∷ [];
     }

@@ -1,7 +1,11 @@
 -- Classes that reach themselves, and the order of the questions.
 use Rattle.std.specs.Prelude.{List, [], ◌∷◌, codes, Some}
-use Rattle.class_views.specs.Query.{ClassQuery, SupersQuery, ConstantQuery, AnnotationsQuery, Whole, Found, ClassFound, NotFound, NotAccessible, WrongKind, Cycle}
-use Rattle.class_views_tests.specs.Classes.{Example, stranger, of_package, int_field, method, class, subclass, interface, type, field_x, member_x, found_x, method_m, interface_m, member_m, found_m}
+use Rattle.class_views.specs.Query.{ClassQuery, SupersQuery, ConstantQuery, AnnotationsQuery}
+use Rattle.class_views.specs.Query.{Whole, Found, ClassFound, NotFound, NotAccessible, WrongKind}
+use Rattle.class_views.specs.Query.{Cycle}
+use Rattle.class_views_tests.specs.Classes.{Example, stranger, of_package, int_field, method}
+use Rattle.class_views_tests.specs.Classes.{class, subclass, interface, type, field_x, member_x}
+use Rattle.class_views_tests.specs.Classes.{found_x, method_m, interface_m, member_m, found_m}
 
 abbrev pub ring_examples : List Example
 ring_examples =

@@ -45,7 +45,8 @@ attributes layers = map roll-Attr layers
 
 abbrev pub sorted : List Ann
 sorted =
-    annotation true (codes "LV;") ∷ annotation true (codes "LW;") ∷ annotation false (codes "LI;") ∷
+    annotation true (codes "LV;") ∷ annotation true (codes "LW;") ∷ annotation false (codes "LI;")
+    ∷
     []
 
 abbrev pub field_f : FieldDesc

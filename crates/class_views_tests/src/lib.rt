@@ -1,4 +1,5 @@
-//! Examples of what clients find: tables of worlds, questions and answers, in a crate of their own.
+//! Examples of what clients find: tables of worlds, questions and answers, in a crate of their
+//! own.
 #![tactic(auto)]
 
 ghost use Rattle.class_views_tests.specs.Classes.{Agree};
@@ -7,7 +8,8 @@ ghost use Rattle.class_views_tests.specs.Fields.{field_examples};
 ghost use Rattle.class_views_tests.specs.Hiding.{HidingAgrees};
 ghost use Rattle.class_views_tests.specs.Methods.{class_examples, interface_examples};
 ghost use Rattle.class_views_tests.specs.Rings.{ring_examples};
-ghost use Rattle.class_views_tests.specs.Views.{ClassAgrees, FieldAgrees, MethodAgrees, PlainAgrees};
+ghost use Rattle.class_views_tests.specs.Views.{ClassAgrees, FieldAgrees, MethodAgrees};
+ghost use Rattle.class_views_tests.specs.Views.{PlainAgrees};
 
 /// Each question about the examples has the answer that stands beside it.
 pub fn answers_agree()
