@@ -1,5 +1,8 @@
--- Reading a class file from front to back (JVMS 4.1), item by item, up to the first check that fails.
-use Rattle.std.specs.Prelude.{◌≡◌, ℕ, zero, suc, ◌-◌, ◌<◌, ◌^◌, ◌||◌, ◌&&◌, Bool, List, [], ◌∷◌, ◌++◌, length, take, drop, codes, Option, Some, None, Result, Ok, Err, nat_lt, ◌==◌, if◌then◌else◌}
+-- Reading a class file from front to back (JVMS 4.1), item by item, up to the first check that
+-- fails.
+use Rattle.std.specs.Prelude.{◌≡◌, ℕ, zero, suc, ◌-◌, ◌<◌, ◌^◌, ◌||◌, ◌&&◌, Bool, List, [], ◌∷◌}
+use Rattle.std.specs.Prelude.{◌++◌, length, take, drop, codes, Option, Some, None, Result, Ok}
+use Rattle.std.specs.Prelude.{Err, nat_lt, ◌==◌, if◌then◌else◌}
 use Rattle.std.specs.Int.{Width, w8, w16, w32, byte_len, from_be_bytes}
 use Rattle.std.specs.List.{list_any, AllByRecursion}
 use Rattle.class_desc.specs.declared.attribute.Attr.{Attr}
@@ -8,7 +11,8 @@ use Rattle.class_desc.specs.declared.class.FieldDesc.{FieldDesc}
 use Rattle.class_desc.specs.declared.class.MethodDesc.{MethodDesc}
 use Rattle.java_names.specs.Names.{is_text, is_class_name, is_field_name, is_method_name}
 use Rattle.class_desc.specs.Pool.{Entry, Utf8, ClassRef, Other, other_length, entry_of}
-use Rattle.class_desc.specs.ClassFile.{is_plain, is_field_descriptor, is_method_descriptor, object_name, magic, Key, is_key}
+use Rattle.class_desc.specs.ClassFile.{is_plain, is_field_descriptor, is_method_descriptor}
+use Rattle.class_desc.specs.ClassFile.{object_name, magic, Key, is_key}
 use Rattle.class_reader.specs.declared.fault.ClassKind.TheVariants.{NotYet}
 use Rattle.class_reader.specs.declared.fault.ClassFault.{ClassFault}
 use Rattle.class_reader.specs.declared.fault.ReadErr.{ReadErr}
@@ -27,7 +31,8 @@ abbrev pub Read : Type 0 → Type 0
 Read A = Result (A × List ℕ) ClassFault
 
 infixl 10 ◌>>=◌
-abbrev pub ◌>>=◌ : {A B : Type 0} → Result A ClassFault → (A → Result B ClassFault) → Result B ClassFault
+abbrev pub ◌>>=◌ : {A B : Type 0} → Result A ClassFault → (A → Result B ClassFault) →
+    Result B ClassFault
 (Ok x) >>= f = f x
 (Err e) >>= f = Err e
 
@@ -35,7 +40,8 @@ abbrev pub Fails : {Y : Type 0} → ReadErr → Result Y ClassFault → Type 0
 Fails errors.Memory read = Unit {0}
 Fails (errors.Fault f) read = read ≡ Err f
 
--- what a function returned, seen by view, and the bytes that it left are what reading gives, unless memory ran out
+-- what a function returned, seen by view, and the bytes that it left are what reading gives,
+-- unless memory ran out
 abbrev pub Gives : {X Y : Type 0} → (X → Y) → Result X ReadErr → List ℕ → Read Y → Type 0
 Gives view (Ok x) left read = read ≡ Ok (view x, left)
 Gives view (Err e) left read = Fails e read
@@ -51,7 +57,8 @@ not_yet = record { offset = 0; kind = NotYet }
 
 -- a number, its highest byte first
 abbrev pub number_at : Width → List ℕ → Read ℕ
-number_at w bytes = if nat_lt (length bytes) (byte_len w) then Err not_yet else Ok (from_be_bytes w (take (byte_len w) bytes), drop (byte_len w) bytes)
+number_at w bytes = if nat_lt (length bytes) (byte_len w) then Err not_yet
+    else Ok (from_be_bytes w (take (byte_len w) bytes), drop (byte_len w) bytes)
 
 abbrev pub piece_at : ℕ → List ℕ → Read (List ℕ)
 piece_at n bytes = if nat_lt (length bytes) n then Err not_yet else Ok (take n bytes, drop n bytes)
@@ -95,7 +102,8 @@ other_entry_at tag bytes = other_of tag (other_length tag) bytes
 unfoldable pub entry_at : List ℕ → Read Entry
 entry_at bytes = do
   tag ← number_at w8 bytes
-  if tag.0 == 1 then text_entry_at tag.1 else if tag.0 == 7 then class_entry_at tag.1 else other_entry_at tag.0 tag.1
+  if tag.0 == 1 then text_entry_at tag.1 else if tag.0 == 7 then class_entry_at tag.1
+      else other_entry_at tag.0 tag.1
 
 unfoldable pub pool_at : List ℕ → Read (List Entry)
 pool_at bytes = do
@@ -160,7 +168,8 @@ super_at pool name bytes = do
   n ← number_at w16 bytes
   if n.0 == 0
       then (if is_text name object_name then Ok (None, n.1) else Err not_yet)
-      else (checked is_class_name (class_named pool n.0) >>= λ super. if is_text name object_name then Err not_yet else Ok (Some super, n.1))
+      else (checked is_class_name (class_named pool n.0) >>= λ super. if is_text name object_name
+      then Err not_yet else Ok (Some super, n.1))
 
 unfoldable pub interfaces_at : List Entry → List ℕ → Read (List (List ℕ))
 interfaces_at pool bytes = do
@@ -193,22 +202,28 @@ abbrev pub unseen : Key → List Key → Result (Unit {0}) ClassFault
 unseen key seen = if list_any (is_key key) seen then Err not_yet else Ok tt
 
 -- what stands in front of the attributes of a member
-unfoldable pub signed_at : List Entry → (List ℕ → Bool) → (List ℕ → Bool) → List ℕ → Read (ℕ × List ℕ × List ℕ)
+unfoldable pub signed_at : List Entry → (List ℕ → Bool) → (List ℕ → Bool) → List ℕ →
+    Read (ℕ × List ℕ × List ℕ)
 signed_at pool is_name is_descriptor bytes = do
   flags ← number_at w16 bytes
   name ← text_at pool is_name flags.1
   descriptor ← text_at pool is_descriptor name.1
   Ok ((flags.0, name.0, descriptor.0), descriptor.1)
 
-unfoldable pub member_at : List Entry → (List ℕ → Bool) → (List ℕ → Bool) → List Key → List ℕ → Read Member
+unfoldable pub member_at : List Entry → (List ℕ → Bool) → (List ℕ → Bool) → List Key → List ℕ →
+    Read Member
 member_at pool is_name is_descriptor seen bytes = do
   front ← signed_at pool is_name is_descriptor bytes
   new ← unseen (front.0.1, front.0.2) seen
   attrs ← attributes_at pool front.1
-  Ok (record { flags = front.0.0; name = front.0.1; descriptor = front.0.2; attrs = attrs.0 }, attrs.1)
+  Ok (
+    record { flags = front.0.0; name = front.0.1; descriptor = front.0.2; attrs = attrs.0 },
+    attrs.1,
+  )
 
 -- as many members as that, of which none has the name and descriptor of another
-unfoldable pub members_at : {A : Type 0} → (Member → A) → (List Key → List ℕ → Read Member) → List Key → ℕ → List ℕ → Read (List A)
+unfoldable pub members_at : {A : Type 0} → (Member → A) → (List Key → List ℕ → Read Member) →
+    List Key → ℕ → List ℕ → Read (List A)
 members_at make read seen zero bytes = Ok ([], bytes)
 members_at make read seen (suc n) bytes = do
   m ← read seen bytes
@@ -244,7 +259,10 @@ head_at pool bytes = do
   name ← class_at pool flags.1
   super ← super_at pool name.0 name.1
   interfaces ← interfaces_at pool super.1
-  Ok (record { flags = flags.0; name = name.0; super_name = super.0; interfaces = interfaces.0 }, interfaces.1)
+  Ok (
+    record { flags = flags.0; name = name.0; super_name = super.0; interfaces = interfaces.0 },
+    interfaces.1,
+  )
 
 -- the class of this version over this pool
 unfoldable pub class_over_at : ℕ × ℕ → List Entry → List ℕ → Read ClassDesc

@@ -1,7 +1,9 @@
 ghost use Rattle.std.specs.Prelude.{◌≡◌, ℕ, ◌≤◌, ◌^◌, List, length, IfOk, Ok};
 ghost use Rattle.java_names.specs.Names.{is_text};
 ghost use Rattle.class_desc.specs.ClassFile.{object_name, ClassSpells};
-ghost use Rattle.class_reader.specs.Reading.{Gives, Answers, AreBytes, times, version_at, class_flags_at, class_at, super_at, interfaces_at, head_at, class_over_at, file_at, class_of};
+ghost use Rattle.class_reader.specs.Reading.{Gives, Answers, AreBytes, times, version_at};
+ghost use Rattle.class_reader.specs.Reading.{class_flags_at, class_at, super_at, interfaces_at};
+ghost use Rattle.class_reader.specs.Reading.{head_at, class_over_at, file_at, class_of};
 
 use crate::fault::{ClassFault, ReadErr};
 use crate::forms::Form;
@@ -89,7 +91,8 @@ impl<'a> Reader<'a> {
         pool: &Pool<'a>,
         count: u16,
     ) -> Result<List<Text>, ReadErr>
-        ensures { Gives (λ names. names) result self.new (times (class_at pool.now) count self.old) }
+        ensures { Gives (λ names. names) result self.new
+            (times (class_at pool.now) count self.old) }
     {
         let mut names = Vec::new(alloc);
         for _ in 0..count {
@@ -195,11 +198,13 @@ pub fn read_class(alloc: Global, bytes: &[u8]) -> Result<ClassDesc, ReadErr>
 
 /// At most one description has given bytes as a spelling.
 pub fn one_description()
-    ensures { (bytes : List ℕ) (d e : ClassDesc) → ClassSpells d bytes → ClassSpells e bytes → d ≡ e }
+    ensures { (bytes : List ℕ) (d e : ClassDesc) → ClassSpells d bytes → ClassSpells e bytes →
+        d ≡ e }
 {}
 
 /// Reading from front to back gives just the descriptions that the bytes spell.
 pub fn reads_what_is_spelled()
-    ensures spelled { (bytes : List ℕ) (d : ClassDesc) → AreBytes bytes → class_of bytes ≡ Ok d → ClassSpells d bytes }
+    ensures spelled { (bytes : List ℕ) (d : ClassDesc) → AreBytes bytes → class_of bytes ≡ Ok d →
+        ClassSpells d bytes }
     ensures read { (bytes : List ℕ) (d : ClassDesc) → ClassSpells d bytes → class_of bytes ≡ Ok d }
 {}

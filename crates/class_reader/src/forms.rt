@@ -2,7 +2,9 @@
 ghost use Rattle.std.specs.Prelude.{◌≡◌};
 ghost use Rattle.class_reader.specs.Reading.{Answers, checked, form_test};
 ghost use Rattle.class_reader.specs.Seen.{text_seen};
-ghost use Rattle.class_desc.specs.ClassFile.{is_plain as is_plain_text, is_field_descriptor as is_field_descriptor_of, is_method_descriptor as is_method_descriptor_of};
+ghost use Rattle.class_desc.specs.ClassFile.{is_plain as is_plain_text};
+ghost use Rattle.class_desc.specs.ClassFile.{is_field_descriptor as is_field_descriptor_of};
+ghost use Rattle.class_desc.specs.ClassFile.{is_method_descriptor as is_method_descriptor_of};
 
 use crate::fault::{ClassFault, ReadErr};
 use java_names::{is_class_name, is_field_name, is_method_name};
@@ -36,7 +38,8 @@ impl Form {
 
     /// The text, where there is one and it has this form.
     pub fn check<'a>(self, text: Option<&'a [u8]>) -> Result<&'a [u8], ReadErr>
-        ensures { Answers (λ checked. checked.now) result (checked (form_test self) (text_seen text.entry)) }
+        ensures { Answers (λ checked. checked.now) result
+            (checked (form_test self) (text_seen text.entry)) }
     {
         match text {
             Some(text) if is_plain(text) && self.fits(text) => Ok(text),

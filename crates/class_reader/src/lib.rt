@@ -1,6 +1,7 @@
 //! Class files (JVMS 4) to descriptions.
 //!
-//! A [`Reader`](reader) goes over the bytes from front to back; each of its methods reads one item.
+//! A [`Reader`](reader) goes over the bytes from front to back; each of its methods reads one
+//! item.
 #![tactic(auto)]
 
 mod class;

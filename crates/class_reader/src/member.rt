@@ -1,5 +1,8 @@
 ghost use Rattle.std.specs.Prelude.{◌≡◌, [], ◌∷◌, ◌++◌, IfOk, OnOk};
-ghost use Rattle.class_reader.specs.Reading.{Answers, Gives, unseen, pass_all, attribute_at, attributes_at, form_test, signed_at, member_at, members_at, as_field, as_method, fields_at, methods_at};
+ghost use Rattle.class_reader.specs.Reading.{Answers, Gives, unseen, pass_all, attribute_at};
+ghost use Rattle.class_reader.specs.Reading.{attributes_at, form_test, signed_at, member_at};
+ghost use Rattle.class_reader.specs.Reading.{members_at, as_field, as_method, fields_at};
+ghost use Rattle.class_reader.specs.Reading.{methods_at};
 
 use crate::fault::{ClassFault, ReadErr};
 use crate::forms::Form;
@@ -114,7 +117,8 @@ impl<'a> Reader<'a> {
     }
 
     fn pass_attributes(&mut self, pool: &Pool<'a>, count: u16) -> Result<(), ReadErr>
-        ensures { Gives (λ _. tt) result self.new (pass_all (attribute_at pool.now) count self.old) }
+        ensures { Gives (λ _. tt) result self.new
+            (pass_all (attribute_at pool.now) count self.old) }
     {
         for _ in 0..count {
             self.pass_attribute(pool)?;
@@ -140,7 +144,8 @@ impl<'a> Reader<'a> {
         name: Form,
         descriptor: Form,
     ) -> Result<(u16, &'a [u8], &'a [u8]), ReadErr>
-        ensures { Gives (λ m. (m.0, m.1.now, m.2.now)) result self.new (signed_at pool.now (form_test name) (form_test descriptor) self.old) }
+        ensures { Gives (λ m. (m.0, m.1.now, m.2.now)) result self.new
+            (signed_at pool.now (form_test name) (form_test descriptor) self.old) }
     {
         let flags = self.u16()?;
         let name = self.text(pool, name)?;
@@ -158,7 +163,8 @@ impl<'a> Reader<'a> {
         descriptor: Form,
         seen: &mut SeenMembers<'a>,
     ) -> Result<Member, ReadErr>
-        ensures member { Gives (λ m. m) result self.new (member_at pool.now (form_test name) (form_test descriptor) seen.old self.old) }
+        ensures member { Gives (λ m. m) result self.new
+            (member_at pool.now (form_test name) (form_test descriptor) seen.old self.old) }
         ensures seen { IfOk result (λ m. seen.new ≡ seen.old ++ (m.name, m.descriptor) ∷ []) }
     {
         let (flags, name, descriptor) = self.signed(pool, name, descriptor)?;
@@ -181,7 +187,9 @@ impl<'a> Reader<'a> {
         descriptor: Form,
         count: u16,
     ) -> Result<List<T>, ReadErr>
-        ensures { Gives (λ members. members) result self.new (members_at T.described (member_at pool.now (form_test name) (form_test descriptor)) [] count self.old) }
+        ensures { Gives (λ members. members) result self.new
+            (members_at T.described (member_at pool.now (form_test name) (form_test descriptor))
+            [] count self.old) }
     {
         let mut seen = SeenMembers::new(alloc);
         let mut members = Vec::new(alloc);

@@ -2,7 +2,10 @@ ghost use Rattle.std.specs.Prelude.{◌≡◌, ◌-◌, map, Some, None};
 ghost use Rattle.std.specs.Option.{option_map};
 ghost use Rattle.class_desc.specs.Pool.{entry_of};
 ghost use Rattle.class_desc.specs.Pool.{other_length as length_of_other};
-ghost use Rattle.class_reader.specs.Reading.{Gives, text_entry_at, class_entry_at, other_entry_at, entry_at, times, pool_at, text_named, class_named, text_at, class_at, form_test};
+ghost use Rattle.class_reader.specs.Reading.{Gives, text_entry_at, class_entry_at};
+ghost use Rattle.class_reader.specs.Reading.{other_entry_at, entry_at, times, pool_at};
+ghost use Rattle.class_reader.specs.Reading.{text_named, class_named, text_at, class_at};
+ghost use Rattle.class_reader.specs.Reading.{form_test};
 ghost use Rattle.class_reader.specs.Seen.{entry_seen, text_seen};
 
 use crate::fault::{ClassFault, ReadErr};
@@ -121,7 +124,8 @@ impl<'a> Reader<'a> {
     }
 
     fn entries(&mut self, alloc: Global, count: u16) -> Result<Vec<PoolEntry<'a>>, ReadErr>
-        ensures { Gives (λ entries. map entry_seen entries.items) result self.new (times entry_at count self.old) }
+        ensures { Gives (λ entries. map entry_seen entries.items) result self.new
+            (times entry_at count self.old) }
     {
         let mut entries = Vec::new(alloc);
         for _ in 0..count {
@@ -148,7 +152,8 @@ impl<'a> Reader<'a> {
     /// The number of a text of this form.
     #[tactic(auto, unfolding(crate::specs::Reading::text_at))]
     pub fn text(&mut self, pool: &Pool<'a>, form: Form) -> Result<&'a [u8], ReadErr>
-        ensures { Gives (λ text. text.now) result self.new (text_at pool.now (form_test form) self.old) }
+        ensures { Gives (λ text. text.now) result self.new
+            (text_at pool.now (form_test form) self.old) }
     {
         let number = self.u16()?;
         form.check(pool.text(number))

@@ -1,4 +1,6 @@
-//! Examples of descriptions, of class files and of what is written for them: the tests of class_desc, class_reader and class_writer, in a crate of their own, so that the proofs of those are checked once.
+//! Examples of descriptions, of class files and of what is written for them: the tests of
+//! class_desc, class_reader and class_writer, in a crate of their own, so that the proofs of
+//! those are checked once.
 #![tactic(auto)]
 
 #[cfg(test)]

@@ -23,7 +23,8 @@ const LONGER: &[u8] = b"\xca\xfe\xba\xbe\0\0\0\x3d\0\x05\
     \x07\0\x02\x01\0\x01A\x07\0\x04\x01\0\x10java/lang/Object\
     \0\x21\0\x01\0\x03\0\0\0\0\0\0\0\0\0";
 
-/// A class with a private field, a private method, a static initialiser and a public method, each with its code.
+/// A class with a private field, a private method, a static initialiser and a public method, each
+/// with its code.
 const MEMBERS: &[u8] = b"\xca\xfe\xba\xbe\0\0\0\x3d\0\x0c\
     \x07\0\x02\x01\0\x01A\x07\0\x04\x01\0\x10java/lang/Object\x01\0\x01f\x01\0\x01I\x01\0\x01p\
     \x01\0\x03()V\x01\0\x04Code\x01\0\x08<clinit>\x01\0\x01m\
@@ -96,9 +97,11 @@ fn reads_classes(rt: HostRuntime) {
     assert!(rt; refused);
 }
 
-/// A class with as many methods as `count`, whose names are the texts of its pool from first to last, and then again.
+/// A class with as many methods as `count`, whose names are the texts of its pool from first to
+/// last, and then again.
 ///
-/// No pool has more: one class, which is its own superclass, and the 65,533 texts A, ()V, m00000, m00001 and so on.
+/// No pool has more: one class, which is its own superclass, and the 65,533 texts A, ()V, m00000,
+/// m00001 and so on.
 fn class_of_methods<R: Abort + AllocGlobal>(rt: &R, count: u16) -> Vec<u8> {
     let mut file = Vec::new(rt.alloc());
     add(

@@ -1,11 +1,13 @@
 -- When a description has no class file.
-use Rattle.std.specs.Prelude.{◌≡◌, ℕ, nat_lt, List, [], ◌∷◌, length, Option, Some, None, Result, Ok, Err, if◌then◌else◌}
+use Rattle.std.specs.Prelude.{◌≡◌, ℕ, nat_lt, List, [], ◌∷◌, length, Option, Some, None, Result}
+use Rattle.std.specs.Prelude.{Ok, Err, if◌then◌else◌}
 use Rattle.class_desc.specs.declared.class.ClassDesc.{ClassDesc}
 use Rattle.class_desc.specs.declared.class.FieldDesc.{FieldDesc}
 use Rattle.class_desc.specs.declared.class.MethodDesc.{MethodDesc}
 use Rattle.class_desc.specs.Layout.{Need, TextNeed, ClassNeed, needs, pool_of}
 use Rattle.class_writer.specs.declared.error.PoolErr.{PoolErr}
-use Rattle.class_writer.specs.declared.error.PoolErr.TheVariants.{TextTooLong, TooMany, PoolFull, Memory}
+use Rattle.class_writer.specs.declared.error.PoolErr.TheVariants.{TextTooLong, TooMany, PoolFull}
+use Rattle.class_writer.specs.declared.error.PoolErr.TheVariants.{Memory}
 
 -- a refusal, or where there is none the next
 abbrev pub or_next : Option PoolErr → Option PoolErr → Option PoolErr
@@ -46,13 +48,15 @@ count_refusal count = if nat_lt 65535 count then Some (TooMany count) else None
 abbrev pub counts : ClassDesc → List ℕ
 counts d = length d.interfaces ∷ length d.fields ∷ length d.methods ∷ []
 
--- the count of the pool, which is one more than its greatest number, is kept in two bytes (JVMS 4.1)
+-- the count of the pool, which is one more than its greatest number, is kept in two bytes (JVMS
+-- 4.1)
 abbrev pub pool_refusal : ℕ → Option PoolErr
 pool_refusal needed = if nat_lt 65534 needed then Some (PoolFull needed) else None
 
 -- first the texts, then the counts, then the pool
 abbrev pub refusal : ClassDesc → Option PoolErr
-refusal d = or_next (first_refusal need_refusal (needs d)) (or_next (first_refusal count_refusal (counts d)) (pool_refusal (length (pool_of d))))
+refusal d = or_next (first_refusal need_refusal (needs d))
+    (or_next (first_refusal count_refusal (counts d)) (pool_refusal (length (pool_of d))))
 
 -- the answer of a check
 abbrev pub checked : Option PoolErr → Result (Unit {0}) PoolErr

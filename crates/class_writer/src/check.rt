@@ -1,6 +1,8 @@
 ghost use Rattle.std.specs.Prelude.{◌≡◌, length};
 ghost use Rattle.class_desc.specs.Layout.{class_needs, needs};
-ghost use Rattle.class_writer.specs.Refusal.{checked, first_refusal, text_refusal, super_refusal, need_refusal, count_refusal, counts, field_refusal, method_refusal};
+ghost use Rattle.class_writer.specs.Refusal.{checked, first_refusal, text_refusal, super_refusal};
+ghost use Rattle.class_writer.specs.Refusal.{need_refusal, count_refusal, counts, field_refusal};
+ghost use Rattle.class_writer.specs.Refusal.{method_refusal};
 
 use crate::error::PoolErr;
 use class_desc::{ClassDesc, FieldDesc, MethodDesc};

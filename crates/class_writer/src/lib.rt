@@ -1,6 +1,7 @@
 //! Descriptions to class files (JVMS 4).
 //!
-//! A [`ClassWriter`](writer) goes over the description once, in the order of the file. It writes what stands behind the pool, and gathers the pool.
+//! A [`ClassWriter`](writer) goes over the description once, in the order of the file. It writes
+//! what stands behind the pool, and gathers the pool.
 #![tactic(auto)]
 
 mod check;

@@ -10,7 +10,8 @@ use std::alloc::Global;
 
 /// Writes the class file of a description (JVMS 4.1), which has no attributes for now.
 ///
-/// The pool has each entry once, in the order in which the file needs them. The refusals are those of [`PoolErr`], in that order.
+/// The pool has each entry once, in the order in which the file needs them. The refusals are
+/// those of [`PoolErr`], in that order.
 pub fn write_class(alloc: Global, desc: &ClassDesc) -> Result<Vec<u8>, PoolErr>
     requires { HasNoAttributes desc.now }
     ensures layout { IfOk result (λ file. file.items ≡ layout desc.now) }

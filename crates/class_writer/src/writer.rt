@@ -2,8 +2,11 @@ ghost use Rattle.std.specs.Prelude.{◌≡◌, [], ◌∷◌, ◌++◌, OnOk, If
 ghost use Rattle.std.specs.Int.{w16, to_be_bytes};
 ghost use Rattle.std.specs.List.{flat_map};
 ghost use Rattle.class_desc.specs.Pool.{entry_bytes};
-ghost use Rattle.class_desc.specs.Layout.{TextNeed, ClassNeed, class_needs, super_needs, field_needs, method_needs, needs, entry_in, number_in, member_bytes, field_bytes, method_bytes};
-ghost use Rattle.class_writer.specs.Writing.{Writes, need_seen, number_bytes, class_number_bytes, super_bytes, body_bytes, pool_bytes, file_of_draft};
+ghost use Rattle.class_desc.specs.Layout.{TextNeed, ClassNeed, class_needs, super_needs};
+ghost use Rattle.class_desc.specs.Layout.{field_needs, method_needs, needs, entry_in, number_in};
+ghost use Rattle.class_desc.specs.Layout.{member_bytes, field_bytes, method_bytes};
+ghost use Rattle.class_writer.specs.Writing.{Writes, need_seen, number_bytes, class_number_bytes};
+ghost use Rattle.class_writer.specs.Writing.{super_bytes, body_bytes, pool_bytes, file_of_draft};
 ghost use Rattle.class_writer.specs.Refusal.{checked, pool_refusal};
 
 use crate::error::PoolErr;
@@ -49,7 +52,11 @@ impl<'a> Model for ClassWriter<'a> {
 
     ghost Value = { Draft };
 
-    ghost view = { λ writer. record { pool = map need_seen writer.keys.keys; body = writer.bytes.items } };
+    ghost view = { λ writer. record {
+      pool = map need_seen writer.keys.keys;
+      body =
+          writer.bytes.items;
+    } };
 }
 
 impl<'a> ClassWriter<'a> {
@@ -79,7 +86,8 @@ impl<'a> ClassWriter<'a> {
 
     /// Puts an entry into the pool, and writes its number.
     fn entry(&mut self, key: Key<'a>) -> Result<(), Memory>
-        ensures { OnOk result (Writes (need_seen key.entry ∷ []) (number_bytes (need_seen key.entry)) self.old self.new) }
+        ensures { OnOk result (Writes (need_seen key.entry ∷ [])
+            (number_bytes (need_seen key.entry)) self.old self.new) }
     {
         let (index, _) = self.keys.insert_full(key)?;
         prove!(index < self.keys.len());
@@ -87,14 +95,16 @@ impl<'a> ClassWriter<'a> {
     }
 
     fn text(&mut self, text: &'a Text) -> Result<(), Memory>
-        ensures { OnOk result (Writes (TextNeed text.now ∷ []) (number_bytes (TextNeed text.now)) self.old self.new) }
+        ensures { OnOk result (Writes (TextNeed text.now ∷ []) (number_bytes (TextNeed text.now))
+            self.old self.new) }
     {
         self.entry(Key::Text(text.bytes()))
     }
 
     /// A class right behind its name.
     fn class(&mut self, name: &'a Text) -> Result<(), Memory>
-        ensures { OnOk result (Writes (class_needs name.now) (number_bytes (ClassNeed name.now)) self.old self.new) }
+        ensures { OnOk result (Writes (class_needs name.now) (number_bytes (ClassNeed name.now))
+            self.old self.new) }
     {
         self.need(Key::Text(name.bytes()))?;
         self.entry(Key::Class(name.bytes()))
@@ -102,7 +112,8 @@ impl<'a> ClassWriter<'a> {
 
     /// The superclass, or 0 where there is none (JVMS 4.1).
     fn super_class(&mut self, name: &'a Option<Text>) -> Result<(), Memory>
-        ensures { OnOk result (Writes (super_needs name.now) (super_bytes name.now) self.old self.new) }
+        ensures { OnOk result (Writes (super_needs name.now) (super_bytes name.now) self.old
+            self.new) }
     {
         match name {
             Some(name) => self.class(name),
@@ -112,7 +123,8 @@ impl<'a> ClassWriter<'a> {
 
     /// A field or a method, with no attributes (JVMS 4.5, 4.6).
     fn member(&mut self, flags: u16, name: &'a Text, descriptor: &'a Text) -> Result<(), Memory>
-        ensures { OnOk result (Writes (TextNeed name.now ∷ TextNeed descriptor.now ∷ []) (λ pool. member_bytes pool flags name.now descriptor.now) self.old self.new) }
+        ensures { OnOk result (Writes (TextNeed name.now ∷ TextNeed descriptor.now ∷ [])
+            (λ pool. member_bytes pool flags name.now descriptor.now) self.old self.new) }
     {
         self.number(usize::from(flags))?;
         self.text(name)?;
@@ -121,7 +133,8 @@ impl<'a> ClassWriter<'a> {
     }
 
     fn class_list(&mut self, names: &'a [Text]) -> Result<(), Memory>
-        ensures { OnOk result (Writes (flat_map class_needs names.now) (λ pool. flat_map (class_number_bytes pool) names.now) self.old self.new) }
+        ensures { OnOk result (Writes (flat_map class_needs names.now)
+            (λ pool. flat_map (class_number_bytes pool) names.now) self.old self.new) }
     {
         for name in names {
             self.class(name)?;
@@ -130,7 +143,8 @@ impl<'a> ClassWriter<'a> {
     }
 
     fn field_list(&mut self, fields: &'a [FieldDesc]) -> Result<(), Memory>
-        ensures { OnOk result (Writes (flat_map field_needs fields.now) (λ pool. flat_map (field_bytes pool) fields.now) self.old self.new) }
+        ensures { OnOk result (Writes (flat_map field_needs fields.now)
+            (λ pool. flat_map (field_bytes pool) fields.now) self.old self.new) }
     {
         for field in fields {
             self.member(field.flags, &field.name, &field.descriptor)?;
@@ -139,7 +153,8 @@ impl<'a> ClassWriter<'a> {
     }
 
     fn method_list(&mut self, methods: &'a [MethodDesc]) -> Result<(), Memory>
-        ensures { OnOk result (Writes (flat_map method_needs methods.now) (λ pool. flat_map (method_bytes pool) methods.now) self.old self.new) }
+        ensures { OnOk result (Writes (flat_map method_needs methods.now)
+            (λ pool. flat_map (method_bytes pool) methods.now) self.old self.new) }
     {
         for method in methods {
             self.member(method.flags, &method.name, &method.descriptor)?;
@@ -175,7 +190,8 @@ impl<'a> ClassWriter<'a> {
 
     /// Writes an entry of the pool (JVMS 4.4.7, 4.4.1).
     fn put_entry(&self, out: &mut Vec<u8>, key: &Key<'a>) -> Result<(), Memory>
-        ensures { OnOk result (out.new.items ≡ out.old.items ++ entry_bytes (entry_in self.now.pool (need_seen key.now))) }
+        ensures { OnOk result (out.new.items ≡ out.old.items
+            ++ entry_bytes (entry_in self.now.pool (need_seen key.now))) }
     {
         match key {
             Key::Text(text) => {

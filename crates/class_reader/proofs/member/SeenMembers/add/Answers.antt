@@ -1,4 +1,5 @@
-use Rattle.std.proofs.Common.{◌≡◌, Bool, true, false, cond, not, Result, Ok, Err, refl, sym, ap, ◌∙◌}
+use Rattle.std.proofs.Common.{◌≡◌, Bool, true, false, cond, not, Result, Ok, Err, refl, sym, ap}
+use Rattle.std.proofs.Common.{◌∙◌}
 use Rattle.std.specs.List.{list_any}
 use Rattle.class_desc.specs.ClassFile.{is_key}
 use Rattle.class_reader.specs.declared.fault.ClassFault.{ClassFault}
@@ -33,7 +34,9 @@ pub returns-clause-unseen : goal.returns-clause-unseen
 returns-clause-unseen c =
     let key : MemberKey = record { name = c.args.name; descriptor = c.args.descriptor } in
     let there = list_any (is_key (c.args.name.now, c.args.descriptor.now)) c.args.self.now in
-    let e : c.in_ok-insert.field-0 ≡ not there = c.in_ok-insert.ensures.added ∙ ap not (any_seen key c.self.inside.keys.keys ∙ ap (list_any (is_key (c.args.name.now, c.args.descriptor.now))) c.self.view_is) in
+    let e : c.in_ok-insert.field-0 ≡ not there = c.in_ok-insert.ensures.added
+    ∙ ap not (any_seen key c.self.inside.keys.keys
+    ∙ ap (list_any (is_key (c.args.name.now, c.args.descriptor.now))) c.self.view_is) in
     elim c.if-branch.branch [
       | then-branch w ↦ rw w.result-is (accepted there c.in_ok-insert.field-0 e w.if-branch.true)
       | else-branch w ↦ rw w.result-is (refused there c.in_ok-insert.field-0 e w.if-branch.false)

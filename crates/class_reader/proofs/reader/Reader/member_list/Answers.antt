@@ -8,15 +8,24 @@ pub returns-in_err-member : goal.returns-in_err-member
 returns-in_err-member g c =
     let p = err_from_is_err_and c.from_residual.result c.from_residual.ensures.1 in
     let read = member_at c.args.pool.now (form_test c.args.name) (form_test c.args.descriptor) in
-    rw (p.1, p.2) (ends g.T.FromMember.described read c.in_err-member.field-0.0 c.loop.members.items c.loop.seen c.args.count c.loop.counter c.loop.self (members_at g.T.FromMember.described read [] c.args.count c.args.self.now) c.loop-test.true c.in_err-member.ensures.member c.loop.invariant)
+    rw (p.1, p.2) (ends g.T.FromMember.described read c.in_err-member.field-0.0
+    c.loop.members.items c.loop.seen c.args.count c.loop.counter c.loop.self
+    (members_at g.T.FromMember.described read [] c.args.count c.args.self.now)
+    c.loop-test.true c.in_err-member.ensures.member c.loop.invariant)
 
 pub loop-preserved : goal.loop-preserved
 loop-preserved g c =
     let read = member_at c.args.pool.now (form_test c.args.name) (form_test c.args.descriptor) in
     rw (c.in_ok-push.ensures.items, c.from_member.ensures, c.in_ok-member.ensures.seen)
-    (goes_on g.T.FromMember.described read c.loop.members.items c.loop.seen c.args.count c.loop.counter c.loop.self c.in_ok-member.member c.member.new.self (members_at g.T.FromMember.described read [] c.args.count c.args.self.now) c.loop-test.true c.in_ok-member.ensures.member c.loop.invariant)
+    (goes_on g.T.FromMember.described read c.loop.members.items c.loop.seen c.args.count
+    c.loop.counter c.loop.self c.in_ok-member.member c.member.new.self
+    (members_at g.T.FromMember.described read [] c.args.count c.args.self.now)
+    c.loop-test.true c.in_ok-member.ensures.member c.loop.invariant)
 
 pub returns : goal.returns
 returns g c =
     let read = member_at c.args.pool.now (form_test c.args.name) (form_test c.args.descriptor) in
-    rw c.of.ensures (is_done g.T.FromMember.described read c.loop.members.items c.loop.seen c.args.count c.loop.counter c.loop.self (members_at g.T.FromMember.described read [] c.args.count c.args.self.now) c.loop-test.false c.loop.invariant)
+    rw c.of.ensures (is_done g.T.FromMember.described read c.loop.members.items c.loop.seen
+    c.args.count c.loop.counter c.loop.self
+    (members_at g.T.FromMember.described read [] c.args.count c.args.self.now)
+    c.loop-test.false c.loop.invariant)

@@ -6,4 +6,6 @@ use Rattle.class_reader.proofs.reader.Reader.member_list.Given as goal
 abbrev pub invariant-loop : goal.invariant-loop
 invariant-loop g l =
     let read = member_at l.pool (form_test l.name) (form_test l.descriptor) in
-    with_front l.members.items (members_at g.T.FromMember.described read l.seen (l.count - l.counter) l.self) ≡ members_at g.T.FromMember.described read [] l.count l.fn.self
+    with_front l.members.items (members_at g.T.FromMember.described read l.seen
+    (l.count - l.counter) l.self) ≡ members_at g.T.FromMember.described read [] l.count
+    l.fn.self

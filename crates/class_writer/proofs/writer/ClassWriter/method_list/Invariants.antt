@@ -5,4 +5,5 @@ use Rattle.class_writer.specs.Writing.{Writes}
 use Rattle.class_writer.proofs.writer.ClassWriter.method_list.Given as goal
 
 abbrev pub invariant-loop-method : goal.invariant-loop-method
-invariant-loop-method l = Writes (flat_map method_needs (take l.method-index l.methods)) (λ pool. flat_map (method_bytes pool) (take l.method-index l.methods)) l.fn.self l.self
+invariant-loop-method l = Writes (flat_map method_needs (take l.method-index l.methods))
+    (λ pool. flat_map (method_bytes pool) (take l.method-index l.methods)) l.fn.self l.self
