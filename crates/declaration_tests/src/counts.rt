@@ -4,8 +4,8 @@ use java_grammar::{expression_fits, head_fits, tokens_fit};
 use java_token::Token;
 use std::process::Abort;
 
-/// `before`, `opening` some times, `inside`, `closing` as many times, `after`; and how many times pass no count, where one
-/// time more does.
+/// `before`, `opening` some times, `inside`, `closing` as many times, `after`; and how many times
+/// pass no count, where one time more does.
 type Nested = (
     &'static str,
     &'static str,
@@ -15,7 +15,7 @@ type Nested = (
     usize,
 );
 
-const HEADS: [Nested; 42] = [
+const HEADS: [Nested; 59] = [
     // angles
     ("class A extends B", "<C", "", ">", "", 64),
     ("class A<T extends B", "<C", "", ">", ">", 63),
@@ -62,10 +62,30 @@ const HEADS: [Nested; 42] = [
     ("A m() default {1, ", "~", "1", "", "}", 256),
     ("A m() default @B(", "~", "1", "", ")", 256),
     ("default ( ) default ", "~", "", "", "", 256),
+    // behind an annotation, and behind its group, an expression begins
+    ("@A(@B ", "- ", "x", "", ") int y", 256),
+    ("@A(@B(1) ", "- ", "x", "", ") int y", 256),
+    ("@A(@B(1) ", "~", "x", "", ") int y", 256),
+    ("@A(@ ", "- ", "x", "", ") int y", 256),
+    ("@A(@B(~1), ", "~", "1", "", ") int x", 256),
+    ("@A(~ @B(", "~", "1", "", ")) int x", 256),
+    ("@A(@B(@C(", "~", "1", "", "))) int x", 256),
+    ("@A(@B(~1) @C(~1) ", "~", "1", "", ") int x", 256),
+    // an initialiser behind `default` is one all the same
+    ("int m() default x = ", "~", "1", "", "", 256),
+    ("int m() default x = ", "(", "1", ")", "", 256),
+    ("int m() default ~1 = 2, ", "~", "1", "", "", 256),
+    ("int m() default ", "~", "1", "", " = 2", 256),
+    // a sign behind a word or a bracket is no prefix operator
+    ("int a = b ", "- ", "1", "", "", 257),
+    ("int a = b ", "+ ", "1", "", "", 257),
+    ("@A(b ", "- ", "1", "", ") int x", 257),
+    ("@A(b[1] ", "- ", "1", "", ") int x", 257),
+    ("@A(x -> ", "- ", "1", "", ") int x", 256),
 ];
 
 /// Heads that pass no count, however often.
-const FITTING: [Nested; 12] = [
+const FITTING: [Nested; 17] = [
     ("int a = f", "(", "1", ")", "", 300),
     ("int a = new int", "[", "1", "]", "", 300),
     ("int a = b ? 1 : f(", "~", "1", "", ")", 300),
@@ -78,25 +98,43 @@ const FITTING: [Nested; 12] = [
     ("@A({1", ", ~1", "", "", "}) int x", 300),
     ("@A", "(1) @B", "", "", " int x", 300),
     ("", "~", "", "", "", 300),
+    ("int m() default x = f(", "~", "1", "", ")", 300),
+    ("int m() default x = f", "(", "1", ")", "", 300),
+    ("int m() { default ", "~", "1", "", "}", 300),
+    ("A a = new @B(", "~", "1", "", ") C()", 300),
+    ("@A(", "~ @B(1) ", "1", "", ") int x", 300),
 ];
 
 /// Tokens that are to be read as a type or an annotation: a `=` begins no initialiser.
-const TYPES_AND_ANNOTATIONS: [Nested; 6] = [
+const TYPES_AND_ANNOTATIONS: [Nested; 8] = [
     ("A", "<B", "", ">", "", 64),
     ("A", "[", "", "]", "", 64),
     ("= ", "(", "", ")", "", 64),
     ("= f", "[", "", "]", "", 64),
     ("@A(", "~", "1", "", ")", 256),
     ("@A(b = {", "~", "1", "", "}) x", 256),
+    ("@A(@B(1) ", "- ", "x", "", ")", 256),
+    ("f() default = ", "~", "1", "", "", 256),
 ];
 
-const EXPRESSIONS: [Nested; 6] = [
+const EXPRESSIONS: [Nested; 16] = [
     ("", "(", "1", ")", "", 256),
     ("", "~", "1", "", "", 256),
     ("a", "? b : c", "", "", "", 256),
     ("a", "< b", "", "", "", 64),
     ("f", "(", "1", ")", "", 256),
     ("a + ", "~", "1", "", "", 256),
+    // behind any operator
+    ("a = ", "- ", "1", "", "", 256),
+    ("a += ", "- ", "1", "", "", 256),
+    ("a >>>= ", "- ", "1", "", "", 256),
+    ("a -> ", "- ", "1", "", "", 256),
+    ("++ ", "- ", "1", "", "", 256),
+    ("a ++ ", "- ", "1", "", "", 256),
+    ("a ", "- ", "1", "", "", 257),
+    ("a.class ", "- ", "1", "", "", 257),
+    ("a[1] ", "- ", "1", "", "", 257),
+    ("a, ", "- ", "1", "", "", 257),
 ];
 
 fn append_times<R: Abort>(rt: &R, text: &mut Vec<u8>, piece: &[u8], times: usize) {

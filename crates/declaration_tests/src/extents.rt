@@ -5,7 +5,7 @@ use java_token::Token;
 use std::process::Abort;
 
 /// What stands behind a `=`: the initialiser, and the rest of the head.
-const INITIALISERS: [(&str, &str); 76] = [
+const INITIALISERS: [(&str, &str); 113] = [
     // the first comma outside brackets ends it
     ("", ""),
     ("", ", x"),
@@ -54,6 +54,14 @@ const INITIALISERS: [(&str, &str); 76] = [
     ("new @X(1, 2) A<B, C>()", ", d"),
     ("new A<B", ", C"),
     ("new A @X <B", ", C>()"),
+    ("new A B < c", ", d > e"),
+    ("new final A<B, C>()", ", d"),
+    ("new final @X A<B, C>()", ", d"),
+    ("new @X final A<B", ", C>()"),
+    ("new int <A", ", B> c"),
+    ("new A[] <B", ", C>> d"),
+    ("new <A, B> <C", ", D> e"),
+    ("new <A, B>> <C", ", D> e"),
     // behind a dot
     ("this.<A, B>f()", ", c"),
     ("a.<A, B>f()", ", c"),
@@ -62,11 +70,39 @@ const INITIALISERS: [(&str, &str); 76] = [
     ("x.M<A, B> f", ", c"),
     ("x.a < b, c > d", ", e"),
     ("x.a < b, c >> d", ", e"),
+    ("x.a < b[c > d, e]", ", q"),
+    ("x.a < b[], c > d", ", e"),
+    ("x.a < b[", ", c > d"),
+    ("x.a < b]", ", c > d"),
+    ("x.a < b @X [], c > d", ", e"),
+    ("x. @X a < b, c > d", ", e"),
+    ("x. final a < b, c > d", ", e"),
+    // `sealed` begins a type only before a further word
+    ("new sealed<A", ", B>()"),
+    ("new sealed.A<B, C>()", ", d"),
+    ("new sealed. @X A<B, C>()", ", d"),
+    ("new A.sealed<B, C>()", ", d"),
+    ("new sealed.sealed<A, B>()", ", c"),
+    ("new <A, B> sealed<C", ", D>()"),
+    ("f().sealed<A", ", B>"),
+    ("x.y.sealed<A, B> c", ", d"),
+    ("x.sealed<A", ", B> c"),
+    ("o instanceof sealed<A", ", B> c"),
+    ("sealed<A", ", B>::new, c"),
+    ("sealed.A<B, C>::new", ", d"),
+    ("A.sealed<B, C>::new", ", d"),
+    ("new A<sealed, B>()", ", c"),
     // behind `instanceof`
     ("o instanceof A<B, C>", ", d"),
     ("o instanceof final A<B, C> a", ", d"),
     ("o instanceof final @A({1, 2}) E<F, G>", ", x"),
     ("o instanceof final final A<B", ", C> a"),
+    ("o instanceof A b < c", ", d > e, x"),
+    ("o instanceof A<B, C> d < e", ", f > g"),
+    ("o instanceof @X final A<B, C> d", ", e"),
+    ("o instanceof @X final @Y A<B, C> d", ", e"),
+    ("o instanceof final @X final A<B", ", C> d"),
+    ("o instanceof final int[] a < b", ", c > d"),
     // before `::`, and behind it
     ("int[]::new", ", d"),
     ("M<A, B>::new", ", x"),
@@ -78,6 +114,8 @@ const INITIALISERS: [(&str, &str); 76] = [
     ("A<B, C>[][]::new", ", d"),
     ("A<B<C, D>, E>::f", ", g"),
     ("A::<B, C>f", ", d"),
+    ("A::<B, C>new", ", d"),
+    ("A::b<C, D>::e", ", f"),
     ("A.super::<B, C>f", ", d"),
     ("M<A", ", B>.::new"),
     ("M<A", ", B> @X ::new"),

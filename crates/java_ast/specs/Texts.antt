@@ -49,7 +49,8 @@ arg_layer_texts (ArgTree-F.Super type) = type
 arg_layer_texts ArgTree-F.Any = []
 
 unfoldable pub type_texts : TypeTree → Texts
-type_texts type = fold-TypeTree Texts Texts Texts arg_layer_texts type_layer_texts part_layer_texts type
+type_texts type = fold-TypeTree Texts Texts Texts arg_layer_texts type_layer_texts
+    part_layer_texts type
 
 abbrev pub literal_texts : Lit → Texts
 literal_texts (literal.Str text) = text ∷ []
@@ -82,10 +83,12 @@ abbrev pub element_arg_layer_texts : ElemArg-F Texts Texts Texts → Texts
 element_arg_layer_texts arg = arg.name ∷ arg.value
 
 unfoldable pub annotation_texts : AnnTree → Texts
-annotation_texts a = fold-AnnTree Texts Texts Texts element_layer_texts annotation_layer_texts element_arg_layer_texts a
+annotation_texts a = fold-AnnTree Texts Texts Texts element_layer_texts annotation_layer_texts
+    element_arg_layer_texts a
 
 unfoldable pub element_texts : ElemTree → Texts
-element_texts e = fold-ElemTree Texts Texts Texts element_layer_texts annotation_layer_texts element_arg_layer_texts e
+element_texts e = fold-ElemTree Texts Texts Texts element_layer_texts annotation_layer_texts
+    element_arg_layer_texts e
 
 abbrev pub modifier_texts : Modifiers → Texts
 modifier_texts mods = flat_map annotation_texts mods.anns
@@ -105,7 +108,8 @@ field_texts f = modifier_texts f.mods ++ (type_texts f.ty ++ f.name ∷ init_tex
 
 abbrev pub method_texts : MethodDecl → Texts
 method_texts m =
-    modifier_texts m.mods ++ (flat_map type_param_texts m.params ++ (type_texts m.ret ++ m.name ∷ (flat_map param_texts m.formals
+    modifier_texts m.mods ++ (flat_map type_param_texts m.params ++
+    (type_texts m.ret ++ m.name ∷ (flat_map param_texts m.formals
     ++ (flat_map type_texts m.throws ++ given element_texts m.default_value))))
 
 abbrev pub constant_texts : EnumConst → Texts
@@ -118,8 +122,10 @@ member_layer_texts (Member-F.Nested d) = d
 
 abbrev pub declaration_layer_texts : TypeDecl-F Texts Texts → Texts
 declaration_layer_texts d =
-    modifier_texts d.mods ++ d.name ∷ (flat_map type_param_texts d.params ++ (flat_map type_texts d.extends
-    ++ (flat_map type_texts d.implements ++ (flat_map type_texts d.permits ++ (flat_map constant_texts d.constants
+    modifier_texts d.mods ++ d.name ∷
+    (flat_map type_param_texts d.params ++ (flat_map type_texts d.extends
+    ++ (flat_map type_texts d.implements ++
+    (flat_map type_texts d.permits ++ (flat_map constant_texts d.constants
     ++ (flat_map param_texts d.components ++ all d.members))))))
 
 unfoldable pub declaration_texts : TypeDecl → Texts

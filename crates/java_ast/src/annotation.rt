@@ -15,7 +15,8 @@ pub struct AnnTree {
     pub args: List<ElemArg>,
 }
 
-/// An element of an annotation with its value. A sole value without a name is that of `value` (JLS 9.7.3).
+/// An element of an annotation with its value. A sole value without a name is that of `value`
+/// (JLS 9.7.3).
 #[cycle(annotation_tree)]
 #[derive(Drop)]
 pub struct ElemArg {

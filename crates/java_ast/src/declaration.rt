@@ -1,11 +1,10 @@
 ghost use Rattle.std.specs.Prelude.{◌≡◌, IfOk};
 
 use crate::annotation::AnnTree;
-use crate::copies::copy_three;
 use crate::member::{FieldDecl, MethodDecl, Param};
 use crate::modifiers::Modifiers;
 use crate::types::TypeTree;
-use hdr_core::{List, Memory, Text, TryCopy};
+use hdr_core::{List, Memory, Text, TryCopy, copy_three};
 use sqlite_items::Boxed;
 use std::alloc::Global;
 

@@ -1,12 +1,11 @@
 ghost use Rattle.std.specs.Prelude.{◌≡◌, IfOk};
 
 use crate::annotation::ElemTree;
-use crate::copies::copy_three;
 use crate::declaration::TypeParam;
 use crate::expression::Expr;
 use crate::modifiers::Modifiers;
 use crate::types::TypeTree;
-use hdr_core::{List, Memory, Text, TryCopy};
+use hdr_core::{List, Memory, Text, TryCopy, copy_three};
 use std::alloc::Global;
 
 /// A field: one for each declarator (JLS 8.3).

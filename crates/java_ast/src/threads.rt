@@ -1,4 +1,5 @@
-//! Workers may share and hand over the values of each type: each is one of these, or a part of one.
+//! Workers may share and hand over the values of each type: each is one of these, or a part of
+//! one.
 use crate::{Expr, Unit};
 use hdr_core::crosses_threads;
 

@@ -1,8 +1,7 @@
 ghost use Rattle.std.specs.Prelude.{◌≡◌, IfOk};
 
-use crate::copies::copy_three;
 use crate::declaration::TypeDecl;
-use hdr_core::{List, Memory, Text, TryCopy};
+use hdr_core::{List, Memory, Text, TryCopy, copy_three};
 use std::alloc::Global;
 
 /// An ordinary compilation unit (JLS 7.3).

@@ -1,203 +1,267 @@
 -- The counts, token by token.
-use Rattle.std.proofs.Common.{◌≡◌, refl, sym, ◌∙◌, ap, ℕ, zero, suc, ◌+◌, ◌-◌, ◌<◌, ◌≤◌, arith, Bool, true, false, not, ◌&&◌, ◌||◌, List, [], ◌∷◌, length, take, drop, get_or}
-use Rattle.std.specs.Prelude.{nat_le}
-use Rattle.std.proofs.lemmas.Bool.{le-leb}
+use Rattle.std.proofs.Common.{◌≡◌, refl, sym, ◌∙◌, ap, not, ℕ, zero, suc, ◌+◌, ◌-◌, ◌<◌, ◌≤◌}
+use Rattle.std.proofs.Common.{arith, Bool, true, false, ◌&&◌, ◌||◌, List, [], ◌∷◌, length, take}
+use Rattle.std.proofs.Common.{drop, get_or, map, cond}
+use Rattle.std.specs.Prelude.{nat_le, count_by, if◌then◌else◌}
+use Rattle.std.specs.List.{list_all}
+use Rattle.std.proofs.lemmas.Bool.{le-leb, lt-leb}
+use Rattle.std.proofs.Math.Bool.{and-true}
 use Rattle.std.proofs.lemmas.List.{take_rest}
+use Rattle.std.proofs.lemmas.List.Sums.{sum_by-cons}
 use Rattle.java_token.specs.declared.token.Token.{Token}
 use Rattle.java_grammar.specs.declared.part.Part.{Part}
 use Rattle.java_grammar.specs.Parts.{part_of, parts}
-use Rattle.java_grammar.specs.Tests.{is_at, is_group_start}
-use Rattle.java_grammar.specs.Extents.{name_from, annotation_from}
-use Rattle.java_grammar.specs.Counts.{bracket_depth, extent_behind, brackets_nest, extent_fits, extents_fit, begins_group, words_and_opening_from, name_and_opening_from, ends_run, runs_fit, elements_inside, begins_default, elements_fit}
+use Rattle.java_grammar.specs.Tests.{is_group_start}
+use Rattle.java_grammar.specs.Counts.{Place, places, bracket_depth, is_counted, takes_prefix}
+use Rattle.java_grammar.specs.Counts.{with_prefixes, is_short, ends_run, prepend, runs_of}
+use Rattle.java_grammar.specs.Counts.{begins_default, behind_default, extent_fits, values_fit}
+use Rattle.java_grammar.specs.Counts.{inside_group, group_behind_name, elements_behind}
+use Rattle.java_grammar.specs.Extents.{name_from, group_from}
+use Rattle.java_grammar.specs.Running.{counted_on, counted_in_run, begins_prefix}
 use Rattle.java_grammar.proofs.Passing.{drop_drop, drop_parts, parts_at}
 
-part_at : (ts : List Token) (i : ℕ) (t : Token) (p : Part) → i < length ts → t ≡ get_or ts i t → p ≡ part_of t
+part_at : (ts : List Token) (i : ℕ) (t : Token) (p : Part) → i < length ts → t ≡ get_or ts i t
+    → p ≡ part_of t
     → parts (drop i ts) ≡ p ∷ parts (drop (i + 1) ts)
-part_at ts i t p h is part = parts_at ts i t h is ∙ ap (λ x. x ∷ parts (drop (i + 1) ts)) (sym part)
+part_at ts i t p h is part = parts_at ts i t h is
+    ∙ ap (λ x. x ∷ parts (drop (i + 1) ts)) (sym part)
 
-rest_from : (ts : List Token) (i n : ℕ) → drop n (parts (drop (i + 1) ts)) ≡ parts (drop (i + (1 + n)) ts)
-rest_from ts i n = drop_parts n (drop (i + 1) ts) ∙ ap parts (drop_drop n (i + 1) ts ∙ ap (λ k. drop k ts) (omega arith))
+rest_from : (ts : List Token) (i n : ℕ)
+    → drop n (parts (drop (i + 1) ts)) ≡ parts (drop (i + (1 + n)) ts)
+rest_from ts i n = drop_parts n (drop (i + 1) ts)
+    ∙ ap parts (drop_drop n (i + 1) ts ∙ ap (λ k. drop k ts) (omega arith))
 
-take_parts : (n : ℕ) (ts : List Token) → take n (parts ts) ≡ parts (take n ts)
+pub take_parts : (n : ℕ) (ts : List Token) → take n (parts ts) ≡ parts (take n ts)
 take_parts zero ts = refl
 take_parts (suc n) [] = refl
 take_parts (suc n) (t ∷ ts) = ap (λ x. part_of t ∷ x) (take_parts n ts)
 
-from_not : (b : Bool) → not b ≡ false → b ≡ true
+-- ---- places
+
+left_out : (u : ℕ → Part → List Part → ℕ) (depth n : ℕ) (ps : List Part)
+    → places u depth n ps ≡ places u depth 0 (drop n ps)
+left_out u depth zero ps = refl
+left_out u depth (suc n) [] = refl
+left_out u depth (suc n) (p ∷ ps) = left_out u depth n ps
+
+abbrev pub place : ℕ → Part → List Part → ℕ → Place
+place depth p ps n = record { depth = depth; part = p; behind = ps; unread = n }
+
+-- the place at a token, and those behind what it leaves out
+pub places_at : (u : ℕ → Part → List Part → ℕ) (ts : List Token) (i depth next n : ℕ) (t : Token)
+    (p : Part) → i < length ts → t ≡ get_or ts i t
+    → p ≡ part_of t → next ≡ bracket_depth depth p
+    → n ≡ u depth p (parts (take (length ts - (i + 1)) (drop (i + 1) ts)))
+    → places u depth 0 (parts (drop i ts))
+    ≡ place depth p (parts (drop (i + 1) ts)) n ∷ places u next 0 (parts (drop (i + (1 + n)) ts))
+places_at u ts i depth next n t p h is part deeper behind =
+    let rest = parts (drop (i + 1) ts) in
+    let e : u depth p rest ≡ n = sym (simp take_rest at behind) in
+    ap (places u depth 0) (part_at ts i t p h is part)
+    ∙ ap (λ k. place depth p rest k ∷ places u (bracket_depth depth p) k rest) e
+    ∙ ap (λ d. place depth p rest n ∷ places u d n rest) (sym deeper)
+    ∙ ap (λ x. place depth p rest n ∷ x)
+    (left_out u next n rest ∙ ap (places u next 0) (rest_from ts i n))
+
+-- a test of each place holds at this one
+pub passes : (test : Place → Bool) (u : ℕ → Part → List Part → ℕ) (ts : List Token)
+    (i depth next n : ℕ) (t : Token) (p : Part) → i < length ts
+    → t ≡ get_or ts i t → p ≡ part_of t → next ≡ bracket_depth depth p
+    → n ≡ u depth p (parts (take (length ts - (i + 1)) (drop (i + 1) ts)))
+    → test (place depth p (parts (drop (i + 1) ts)) n) ≡ true
+    → list_all test (places u 0 0 (parts ts))
+    ≡ list_all test (places u depth 0 (parts (drop i ts)))
+    → list_all test (places u 0 0 (parts ts))
+    ≡ list_all test (places u next 0 (parts (drop (i + (1 + n)) ts)))
+passes test u ts i depth next n t p h is part deeper behind holds same =
+    same ∙ ap (list_all test) (places_at u ts i depth next n t p h is part deeper behind)
+    ∙ ap (λ b. b && list_all test (places u next 0 (parts (drop (i + (1 + n)) ts)))) holds
+
+-- it fails at this one
+pub fails : (test : Place → Bool) (u : ℕ → Part → List Part → ℕ) (ts : List Token)
+    (i depth next n : ℕ) (t : Token) (p : Part) → i < length ts
+    → t ≡ get_or ts i t → p ≡ part_of t → next ≡ bracket_depth depth p
+    → n ≡ u depth p (parts (take (length ts - (i + 1)) (drop (i + 1) ts)))
+    → test (place depth p (parts (drop (i + 1) ts)) n) ≡ false
+    → list_all test (places u 0 0 (parts ts))
+    ≡ list_all test (places u depth 0 (parts (drop i ts)))
+    → false ≡ list_all test (places u 0 0 (parts ts))
+fails test u ts i depth next n t p h is part deeper behind holds same =
+    sym (same ∙ ap (list_all test) (places_at u ts i depth next n t p h is part deeper behind)
+    ∙ ap (λ b. b && list_all test (places u next 0 (parts (drop (i + (1 + n)) ts)))) holds)
+
+-- ---- runs
+
+-- so many are counted in a run before the first of these
+abbrev pub run_counts : ℕ → Bool → List Part → ℕ
+run_counts so_far may run = so_far + count_by (λ at. is_counted at.0 at.1) (with_prefixes may run)
+
+abbrev pub runs_fit : ℕ → Bool → List (List Part) → Bool
+runs_fit so_far may [] = nat_le so_far 256
+runs_fit so_far may (run ∷ runs) = nat_le (run_counts so_far may run) 256 && list_all is_short runs
+
+pub runs_begin : (runs : List (List Part)) → list_all is_short runs ≡ runs_fit 0 true runs
+runs_begin [] = refl
+runs_begin (run ∷ runs) = ap (λ n. nat_le n 256 && list_all is_short runs) (omega arith)
+
+run_ends : (so_far : ℕ) (may : Bool) (runs : List (List Part)) → so_far ≤ 256
+    → runs_fit so_far may ([] ∷ runs) ≡ runs_fit 0 true runs
+run_ends so_far may runs few =
+    let e : nat_le so_far 256 ≡ true = le-leb so_far 256 few in
+    let k : so_far + 0 ≡ so_far = omega arith in
+    ap (λ n. nat_le n 256 && list_all is_short runs) k ∙ ap (λ b. b && list_all is_short runs) e
+    ∙ runs_begin runs
+
+counts_on : (so_far : ℕ) (may : Bool) (p : Part) (b : Bool) (n : ℕ) → is_counted may p ≡ b
+    → so_far + (cond b 1 0 + n) ≡ counted_on so_far may p + n
+counts_on so_far may p true n e = rw e (omega arith)
+counts_on so_far may p false n e = rw e (omega arith)
+
+counts_further : (so_far : ℕ) (may : Bool) (p : Part) (run : List Part)
+    → run_counts so_far may (p ∷ run) ≡ run_counts (counted_on so_far may p) (takes_prefix p) run
+counts_further so_far may p run =
+    let rest = with_prefixes (takes_prefix p) run in
+    ap (λ n. so_far + n) (sum_by-cons (λ at. cond (is_counted at.0 at.1) 1 0) (may, p) rest)
+    ∙ counts_on so_far may p (is_counted may p) (count_by (λ at. is_counted at.0 at.1) rest) refl
+
+run_goes_on : (so_far : ℕ) (may : Bool) (p : Part) (runs : List (List Part))
+    → runs_fit so_far may (prepend p runs)
+    ≡ runs_fit (counted_on so_far may p) (takes_prefix p) runs
+run_goes_on so_far may p [] =
+    let k : counted_on so_far may p + 0 ≡ counted_on so_far may p = omega arith in
+    ap (λ n. nat_le n 256 && true) (counts_further so_far may p [] ∙ k)
+    ∙ and-true (nat_le (counted_on so_far may p) 256)
+run_goes_on so_far may p (run ∷ runs) =
+    ap (λ n. nat_le n 256 && list_all is_short runs) (counts_further so_far may p run)
+
+run_step : (so_far : ℕ) (may b : Bool) (p : Part) (ps : List Part) → so_far ≤ 256 → ends_run p ≡ b
+    → runs_fit so_far may (runs_of (p ∷ ps))
+    ≡ runs_fit (counted_in_run so_far may p) (begins_prefix p) (runs_of ps)
+run_step so_far may true p ps few e = rw e (run_ends so_far may (runs_of ps) few)
+run_step so_far may false p ps few e = rw e (run_goes_on so_far may p (runs_of ps))
+
+too_many : (so_far : ℕ) (may : Bool) (runs : List (List Part)) → 256 < so_far
+    → runs_fit so_far may runs ≡ false
+too_many so_far may [] many = lt-leb so_far 256 many
+too_many so_far may (run ∷ runs) many =
+    ap (λ b. b && list_all is_short runs) (lt-leb (run_counts so_far may run) 256 (omega arith))
+
+-- a place of the list is counted in its run
+pub run_at : (u : ℕ → Part → List Part → ℕ) (ts : List Token) (i depth next n so_far : ℕ)
+    (may : Bool) (t : Token) (p : Part) → i < length ts
+    → t ≡ get_or ts i t → p ≡ part_of t → next ≡ bracket_depth depth p
+    → n ≡ u depth p (parts (take (length ts - (i + 1)) (drop (i + 1) ts))) → so_far ≤ 256
+    → list_all is_short (runs_of (map (λ at. at.part) (places u 0 0 (parts ts))))
+    ≡ runs_fit so_far may (runs_of (map (λ at. at.part) (places u depth 0 (parts (drop i ts)))))
+    → list_all is_short (runs_of (map (λ at. at.part) (places u 0 0 (parts ts))))
+    ≡ runs_fit (counted_in_run so_far may p) (begins_prefix p)
+    (runs_of (map (λ at. at.part) (places u next 0 (parts (drop (i + (1 + n)) ts)))))
+run_at u ts i depth next n so_far may t p h is part deeper behind few same =
+    same ∙ ap (λ x. runs_fit so_far may (runs_of (map (λ at. at.part) x)))
+    (places_at u ts i depth next n t p h is part deeper behind)
+    ∙ run_step so_far may _ p (map (λ at. at.part)
+    (places u next 0 (parts (drop (i + (1 + n)) ts)))) few refl
+
+-- so is it where the code has come to
+pub run_further : (so_far next : ℕ) (may then_ : Bool) (p : Part) (runs : List (List Part))
+    (r : Bool) → next ≡ counted_in_run so_far may p
+    → then_ ≡ begins_prefix p → r ≡ runs_fit (counted_in_run so_far may p) (begins_prefix p) runs
+    → r ≡ runs_fit next then_ runs
+run_further so_far next may then_ p runs r counted begins same =
+    same ∙ ap (λ n. runs_fit n (begins_prefix p) runs) (sym counted)
+    ∙ ap (λ b. runs_fit next b runs) (sym begins)
+
+pub run_stops : (n so_far : ℕ) (may : Bool) (runs : List (List Part)) (r : Bool) → n ≡ so_far
+    → 256 < n → r ≡ runs_fit so_far may runs
+    → false ≡ r
+run_stops n so_far may runs r e many same = sym (same ∙ too_many so_far may runs (omega arith))
+
+-- ---- behind `default`
+
+not_there : (depth : ℕ) (p : Part) (ps : List Part) (n : ℕ) (grouped : Bool) (others : List Place)
+    → begins_default depth p grouped ≡ false
+    → behind_default grouped (place depth p ps n ∷ others)
+    ≡ behind_default (grouped || is_group_start p) others
+not_there depth p ps n grouped others e = rw e refl
+
+there : (depth : ℕ) (p : Part) (ps : List Part) (n : ℕ) (grouped : Bool) (others : List Place)
+    → begins_default depth p grouped ≡ true
+    → behind_default grouped (place depth p ps n ∷ others) ≡ ps
+there depth p ps n grouped others e = rw e refl
+
+pub default_further : (u : ℕ → Part → List Part → ℕ) (ts : List Token) (i depth next n : ℕ)
+    (grouped more : Bool) (t : Token) (p : Part) → i < length ts
+    → t ≡ get_or ts i t → p ≡ part_of t → next ≡ bracket_depth depth p
+    → n ≡ u depth p (parts (take (length ts - (i + 1)) (drop (i + 1) ts)))
+    → begins_default depth p grouped ≡ false → more ≡ (grouped || is_group_start p)
+    → behind_default false (places u 0 0 (parts ts))
+    ≡ behind_default grouped (places u depth 0 (parts (drop i ts)))
+    → behind_default false (places u 0 0 (parts ts))
+    ≡ behind_default more (places u next 0 (parts (drop (i + (1 + n)) ts)))
+default_further u ts i depth next n grouped more t p h is part deeper behind other group same =
+    let others = places u next 0 (parts (drop (i + (1 + n)) ts)) in
+    same ∙ ap (behind_default grouped) (places_at u ts i depth next n t p h is part deeper behind)
+    ∙ not_there depth p (parts (drop (i + 1) ts)) n grouped others other
+    ∙ ap (λ b. behind_default b others) (sym group)
+
+pub default_found : (u : ℕ → Part → List Part → ℕ) (ts : List Token) (i depth : ℕ)
+    (grouped : Bool) (t : Token) (p : Part) → i < length ts
+    → t ≡ get_or ts i t → p ≡ part_of t → begins_default depth p grouped ≡ true
+    → behind_default false (places u 0 0 (parts ts))
+    ≡ behind_default grouped (places u depth 0 (parts (drop i ts)))
+    → parts (take (length ts - (i + 1)) (drop (i + 1) ts))
+    ≡ behind_default false (places u 0 0 (parts ts))
+default_found u ts i depth grouped t p h is part found same =
+    let rest = parts (drop (i + 1) ts) in
+    ap parts (take_rest ts (i + 1))
+    ∙ sym (same ∙ ap (λ x. behind_default grouped (places u depth 0 x))
+    (part_at ts i t p h is part)
+    ∙ there depth p rest (u depth p rest) grouped
+    (places u (bracket_depth depth p) (u depth p rest) rest) found)
+
+-- ---- what is inside
+
+pub fits_at : (ts : List Token) (i n : ℕ) (r : Bool)
+    → r ≡ extent_fits (parts (take (i + 1 + n - (i + 1)) (drop (i + 1) ts)))
+    → extent_fits (take n (parts (drop (i + 1) ts))) ≡ r
+fits_at ts i n r is =
+    let rest = drop (i + 1) ts in
+    let k : i + 1 + n - (i + 1) ≡ n = omega arith in
+    ap extent_fits (take_parts n rest ∙ ap (λ m. parts (take m rest)) (sym k)) ∙ sym is
+
+pub elements_at : (ts : List Token) (i : ℕ) (p : Part) (r : Bool)
+    → r ≡ values_fit false (elements_behind p
+    (parts (take (length ts - (i + 1)) (drop (i + 1) ts))))
+    → values_fit false (elements_behind p (parts (drop (i + 1) ts))) ≡ r
+elements_at ts i p r is = ap (λ x. values_fit false (elements_behind p (parts x)))
+    (sym (take_rest ts (i + 1))) ∙ sym is
+
+pub from_not : (b : Bool) → not b ≡ false → b ≡ true
 from_not true e = refl
 from_not false e = cc
 
-to_not : (b : Bool) → not b ≡ true → b ≡ false
+pub to_not : (b : Bool) → not b ≡ true → b ≡ false
 to_not true e = cc
 to_not false e = refl
 
--- ---- brackets
+pub group_at : (ts : List Token) (t : Token) (p : Part) (n s : ℕ) (b : Bool) → 1 ≤ length ts
+    → t ≡ get_or ts 0 t → p ≡ part_of t
+    → b ≡ is_group_start p → b ≡ true → n ≡ group_from (parts (take (length ts - 1) (drop 1 ts)))
+    → s ≡ n - 1
+    → parts (take s (take (length ts - 1) (drop 1 ts))) ≡ inside_group (parts ts)
+group_at [] t p n s b some is part group true_ size less = absurd (omega arith)
+group_at (u ∷ ts) t p n s b some is part group true_ size less =
+    let start : is_group_start (part_of u) ≡ true = ap (λ x. is_group_start (part_of x)) (sym is)
+    ∙ ap is_group_start (sym part) ∙ sym group ∙ true_ in
+    let whole : n ≡ group_from (parts ts) = size
+    ∙ ap (λ x. group_from (parts x)) (take_rest (u ∷ ts) 1) in
+    ap (λ x. parts (take s x)) (take_rest (u ∷ ts) 1) ∙ sym (take_parts s ts)
+    ∙ ap (λ k. take k (parts ts)) (less ∙ ap (λ k. k - 1) whole)
+    ∙ sym (ap (λ c. if c then take (group_from (parts ts) - 1) (parts ts) else []) start)
 
-brackets_skipped : (h : Bool) (depth n : ℕ) (ps : List Part) → brackets_nest h depth n ps ≡ brackets_nest h depth 0 (drop n ps)
-brackets_skipped h depth zero ps = refl
-brackets_skipped h depth (suc n) [] = refl
-brackets_skipped h depth (suc n) (p ∷ ps) = brackets_skipped h depth n ps
-
-brackets_passed : (h : Bool) (depth : ℕ) (p : Part) (ps : List Part) → bracket_depth depth p ≤ 64
-    → brackets_nest h depth 0 (p ∷ ps) ≡ brackets_nest h (bracket_depth depth p) (extent_behind h depth p ps) ps
-brackets_passed h depth p ps few = let e = le-leb (bracket_depth depth p) 64 few in rw e refl
-
-pub brackets_step : (h : Bool) (ts : List Token) (i depth next extent : ℕ) (t : Token) (p : Part) → i < length ts → t ≡ get_or ts i t → p ≡ part_of t
-    → next ≡ bracket_depth depth p → next ≤ 64
-    → extent ≡ extent_behind h depth p (parts (take (length ts - (i + 1)) (drop (i + 1) ts)))
-    → brackets_nest h 0 0 (parts ts) ≡ brackets_nest h depth 0 (parts (drop i ts))
-    → brackets_nest h 0 0 (parts ts) ≡ brackets_nest h next 0 (parts (drop (i + (1 + extent)) ts))
-brackets_step h ts i depth next extent t p less is part deeper few behind same =
-    let rest = parts (drop (i + 1) ts) in
-    let e : extent_behind h depth p rest ≡ extent = sym (simp take_rest at behind) in
-    let f : bracket_depth depth p ≤ 64 = rw (sym deeper) few in
-    same ∙ ap (brackets_nest h depth 0) (part_at ts i t p less is part)
-    ∙ brackets_passed h depth p rest f
-    ∙ ap (λ d. brackets_nest h d (extent_behind h depth p rest) rest) (sym deeper)
-    ∙ ap (λ n. brackets_nest h next n rest) e
-    ∙ brackets_skipped h next extent rest
-    ∙ ap (brackets_nest h next 0) (rest_from ts i extent)
-
--- ---- extents
-
-extents_skipped : (depth n : ℕ) (ps : List Part) → extents_fit depth n ps ≡ extents_fit depth 0 (drop n ps)
-extents_skipped depth zero ps = refl
-extents_skipped depth (suc n) [] = refl
-extents_skipped depth (suc n) (p ∷ ps) = extents_skipped depth n ps
-
-extents_passed : (depth : ℕ) (p : Part) (ps : List Part) → extent_fits (take (extent_behind true depth p ps) ps) ≡ true
-    → extents_fit depth 0 (p ∷ ps) ≡ extents_fit (bracket_depth depth p) (extent_behind true depth p ps) ps
-extents_passed depth p ps e = rw e refl
-
-extents_failed : (depth : ℕ) (p : Part) (ps : List Part) → extent_fits (take (extent_behind true depth p ps) ps) ≡ false
-    → extents_fit depth 0 (p ∷ ps) ≡ false
-extents_failed depth p ps e = rw e refl
-
--- what is known of the extent at a place
-long_at : (ts : List Token) (i depth extent : ℕ) (p : Part) (long b : Bool)
-    → extent ≡ extent_behind true depth p (parts (take (length ts - (i + 1)) (drop (i + 1) ts)))
-    → long ≡ not (extent_fits (parts (take (i + 1 + extent - (i + 1)) (drop (i + 1) ts)))) → long ≡ b
-    → not (extent_fits (take (extent_behind true depth p (parts (drop (i + 1) ts))) (parts (drop (i + 1) ts)))) ≡ b
-long_at ts i depth extent p long b behind is known =
-    let rest = drop (i + 1) ts in
-    let e : extent_behind true depth p (parts rest) ≡ extent = sym (simp take_rest at behind) in
-    let k : i + 1 + extent - (i + 1) ≡ extent = omega arith in
-    ap (λ n. not (extent_fits (take n (parts rest)))) e
-    ∙ ap (λ x. not (extent_fits x)) (take_parts extent rest ∙ ap (λ n. parts (take n rest)) (sym k))
-    ∙ sym is ∙ known
-
-pub extents_step : (ts : List Token) (i depth next extent : ℕ) (t : Token) (p : Part) (long : Bool) → i < length ts → t ≡ get_or ts i t → p ≡ part_of t
-    → next ≡ bracket_depth depth p
-    → extent ≡ extent_behind true depth p (parts (take (length ts - (i + 1)) (drop (i + 1) ts)))
-    → long ≡ not (extent_fits (parts (take (i + 1 + extent - (i + 1)) (drop (i + 1) ts)))) → long ≡ false
-    → extents_fit 0 0 (parts ts) ≡ extents_fit depth 0 (parts (drop i ts))
-    → extents_fit 0 0 (parts ts) ≡ extents_fit next 0 (parts (drop (i + (1 + extent)) ts))
-extents_step ts i depth next extent t p long less is part deeper behind long_is short same =
-    let rest = parts (drop (i + 1) ts) in
-    let e : extent_behind true depth p rest ≡ extent = sym (simp take_rest at behind) in
-    same ∙ ap (extents_fit depth 0) (part_at ts i t p less is part)
-    ∙ extents_passed depth p rest (from_not _ (long_at ts i depth extent p long false behind long_is short))
-    ∙ ap (λ d. extents_fit d (extent_behind true depth p rest) rest) (sym deeper)
-    ∙ ap (λ n. extents_fit next n rest) e
-    ∙ extents_skipped next extent rest
-    ∙ ap (extents_fit next 0) (rest_from ts i extent)
-
-pub extents_stop : (ts : List Token) (i depth extent : ℕ) (t : Token) (p : Part) (long : Bool) → i < length ts → t ≡ get_or ts i t → p ≡ part_of t
-    → extent ≡ extent_behind true depth p (parts (take (length ts - (i + 1)) (drop (i + 1) ts)))
-    → long ≡ not (extent_fits (parts (take (i + 1 + extent - (i + 1)) (drop (i + 1) ts)))) → long ≡ true
-    → extents_fit 0 0 (parts ts) ≡ extents_fit depth 0 (parts (drop i ts))
-    → false ≡ extents_fit 0 0 (parts ts)
-extents_stop ts i depth extent t p long less is part behind long_is known same =
-    let rest = parts (drop (i + 1) ts) in
-    sym (same ∙ ap (extents_fit depth 0) (part_at ts i t p less is part)
-    ∙ extents_failed depth p rest (to_not _ (long_at ts i depth extent p long true behind long_is known)))
-
--- ---- values of elements
-
-pub opening_length : (ts : List Token) (n o : ℕ) → n ≡ name_from (parts ts) → o ≡ begins_group (parts (take (length ts - n) (drop n ts)))
-    → n + o ≡ words_and_opening_from (parts ts)
-opening_length ts n o name opening =
-    ap (λ x. n + x) (simp take_rest at opening ∙ ap begins_group (sym (drop_parts n ts)))
-    ∙ ap (λ m. m + begins_group (drop m (parts ts))) name
-
-runs_skipped : (so_far : ℕ) (may : Bool) (n : ℕ) (ps : List Part) → runs_fit so_far may n ps ≡ runs_fit so_far may 0 (drop n ps)
-runs_skipped so_far may zero ps = refl
-runs_skipped so_far may (suc n) [] = refl
-runs_skipped so_far may (suc n) (p ∷ ps) = runs_skipped so_far may n ps
-
-runs_passed : (so_far : ℕ) (may : Bool) (p : Part) (ps : List Part) → ends_run p ≡ false → is_at p ≡ true
-    → runs_fit so_far may 0 (p ∷ ps) ≡ runs_fit 0 true (name_and_opening_from ps) ps
-runs_passed so_far may p ps e f = rw (e, f) refl
-
-pub runs_step : (ts : List Token) (i so_far n : ℕ) (may : Bool) (t : Token) (p : Part) → i < length ts → t ≡ get_or ts i t → p ≡ part_of t
-    → ends_run p ≡ false → is_at p ≡ true
-    → n ≡ name_and_opening_from (parts (take (length ts - (i + 1)) (drop (i + 1) ts)))
-    → runs_fit 0 true 0 (parts ts) ≡ runs_fit so_far may 0 (parts (drop i ts))
-    → runs_fit 0 true 0 (parts ts) ≡ runs_fit 0 true 0 (parts (drop (i + 1 + n) ts))
-runs_step ts i so_far n may t p less is part goes_on at name same =
-    let rest = parts (drop (i + 1) ts) in
-    let e : name_and_opening_from rest ≡ n = sym (simp take_rest at name) in
-    let k : i + (1 + n) ≡ i + 1 + n = omega arith in
-    same ∙ ap (runs_fit so_far may 0) (part_at ts i t p less is part)
-    ∙ runs_passed so_far may p rest goes_on at
-    ∙ ap (λ m. runs_fit 0 true m rest) e
-    ∙ runs_skipped 0 true n rest
-    ∙ ap (runs_fit 0 true 0) (rest_from ts i n ∙ ap (λ m. parts (drop m ts)) k)
-
-pub inside_fits : (ts : List Token) (name whole : ℕ) (r : Bool) → name ≡ name_and_opening_from (parts ts) → whole ≡ annotation_from (parts ts)
-    → r ≡ runs_fit 0 true 0 (parts (take (whole - 1 - name) (drop name ts)))
-    → r ≡ runs_fit 0 true 0 (elements_inside (parts ts))
-inside_fits ts name whole r n w fits =
-    let k : whole - 1 - name ≡ whole - name - 1 = omega arith in
-    fits
-    ∙ ap (λ m. runs_fit 0 true 0 (parts (take m (drop name ts)))) k
-    ∙ ap (runs_fit 0 true 0) (sym (take_parts (whole - name - 1) (drop name ts)) ∙ ap (take (whole - name - 1)) (sym (drop_parts name ts)))
-    ∙ ap (λ m. runs_fit 0 true 0 (take (whole - m - 1) (drop m (parts ts)))) n
-    ∙ ap (λ m. runs_fit 0 true 0 (take (m - name_and_opening_from (parts ts) - 1) (drop (name_and_opening_from (parts ts)) (parts ts)))) w
-
-elements_skipped : (h : Bool) (depth : ℕ) (group : Bool) (n : ℕ) (ps : List Part) → elements_fit h depth group n ps ≡ elements_fit h depth group 0 (drop n ps)
-elements_skipped h depth group zero ps = refl
-elements_skipped h depth group (suc n) [] = refl
-elements_skipped h depth group (suc n) (p ∷ ps) = elements_skipped h depth group n ps
-
-annotation_passed : (h : Bool) (depth : ℕ) (group : Bool) (p : Part) (ps : List Part) → is_at p ≡ true
-    → runs_fit 0 true 0 (elements_inside ps) ≡ true
-    → elements_fit h depth group 0 (p ∷ ps) ≡ elements_fit h depth group (annotation_from ps) ps
-annotation_passed h depth group p ps at fits = rw (at, fits) refl
-
-pub annotation_step : (h : Bool) (ts : List Token) (i depth n : ℕ) (group long : Bool) (t : Token) (p : Part) → i < length ts → t ≡ get_or ts i t → p ≡ part_of t
-    → is_at p ≡ true
-    → long ≡ not (runs_fit 0 true 0 (elements_inside (parts (take (length ts - (i + 1)) (drop (i + 1) ts))))) → long ≡ false
-    → n ≡ annotation_from (parts (take (length ts - (i + 1)) (drop (i + 1) ts)))
-    → elements_fit h 0 false 0 (parts ts) ≡ elements_fit h depth group 0 (parts (drop i ts))
-    → elements_fit h 0 false 0 (parts ts) ≡ elements_fit h depth group 0 (parts (drop (i + (1 + n)) ts))
-annotation_step h ts i depth n group long t p less is part at long_is short whole same =
-    let rest = parts (drop (i + 1) ts) in
-    let e : annotation_from rest ≡ n = sym (simp take_rest at whole) in
-    let f : not (runs_fit 0 true 0 (elements_inside rest)) ≡ false = sym (simp take_rest at long_is) ∙ short in
-    same ∙ ap (elements_fit h depth group 0) (part_at ts i t p less is part)
-    ∙ annotation_passed h depth group p rest at (from_not _ f)
-    ∙ ap (λ m. elements_fit h depth group m rest) e
-    ∙ elements_skipped h depth group n rest
-    ∙ ap (elements_fit h depth group 0) (rest_from ts i n)
-
-part_passed : (h : Bool) (depth : ℕ) (group : Bool) (p : Part) (ps : List Part) → is_at p ≡ false → begins_default p depth group ≡ false
-    → elements_fit h depth group 0 (p ∷ ps) ≡ elements_fit h (bracket_depth depth p) (group || is_group_start p) (extent_behind h depth p ps) ps
-part_passed h depth group p ps at other = rw (at, other) refl
-
-pub elements_step : (h : Bool) (ts : List Token) (i depth next extent : ℕ) (group now : Bool) (t : Token) (p : Part) → i < length ts → t ≡ get_or ts i t → p ≡ part_of t
-    → is_at p ≡ false → begins_default p depth group ≡ false
-    → next ≡ bracket_depth depth p → now ≡ (group || is_group_start p)
-    → extent ≡ extent_behind h depth p (parts (take (length ts - (i + 1)) (drop (i + 1) ts)))
-    → elements_fit h 0 false 0 (parts ts) ≡ elements_fit h depth group 0 (parts (drop i ts))
-    → elements_fit h 0 false 0 (parts ts) ≡ elements_fit h next now 0 (parts (drop (i + (1 + extent)) ts))
-elements_step h ts i depth next extent group now t p less is part at other deeper grouped behind same =
-    let rest = parts (drop (i + 1) ts) in
-    let e : extent_behind h depth p rest ≡ extent = sym (simp take_rest at behind) in
-    same ∙ ap (elements_fit h depth group 0) (part_at ts i t p less is part)
-    ∙ part_passed h depth group p rest at other
-    ∙ ap (λ d. elements_fit h d (group || is_group_start p) (extent_behind h depth p rest) rest) (sym deeper)
-    ∙ ap (λ g. elements_fit h next g (extent_behind h depth p rest) rest) (sym grouped)
-    ∙ ap (λ n. elements_fit h next now n rest) e
-    ∙ elements_skipped h next now extent rest
-    ∙ ap (elements_fit h next now 0) (rest_from ts i extent)
+pub group_behind : (ts : List Token) (n : ℕ) (r : List Part) → n ≡ name_from (parts ts)
+    → r ≡ inside_group (parts (take (length ts - n) (drop n ts)))
+    → r ≡ group_behind_name (parts ts)
+group_behind ts n r name inside =
+    simp take_rest at inside ∙ ap inside_group (sym (drop_parts n ts))
+    ∙ ap (λ k. inside_group (drop k (parts ts))) name

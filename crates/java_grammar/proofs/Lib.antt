@@ -1,5 +1,8 @@
 pub mod Passing
+pub mod Rows
 pub mod Angles
-pub mod References
-pub mod Extending
 pub mod Counting
+pub mod Marking
+pub mod Operators
+pub mod Ungrouped
+pub mod Fronts

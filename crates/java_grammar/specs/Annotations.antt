@@ -1,14 +1,14 @@
 -- Which texts spell which annotations and which values of their elements (JLS 9.7, 9.7.1).
-use Rattle.std.specs.Prelude.{◌≡◌, ℕ, zero, suc, List, [], ◌∷◌, codes, ◌⊎◌}
-use Rattle.java_ast.specs.declared.expression.Expr.{Expr}
+use Rattle.std.specs.Prelude.{◌≡◌, ℕ, zero, suc, List, [], ◌∷◌, codes}
 use Rattle.java_ast.specs.declared.annotation.AnnTree.{AnnTree, out-AnnTree}
 use Rattle.java_ast.specs.declared.annotation.ElemArg.{ElemArg, out-ElemArg}
 use Rattle.java_ast.specs.declared.annotation.ElemTree.{ElemTree, out-ElemTree}
 use Rattle.java_ast.specs.declared.annotation.ElemTree.TheOpen.{ElemTree-F, AnnTree-F, ElemArg-F}
 use Rattle.java_grammar.specs.declared.part.Part.TheVariants as part
 use Rattle.java_grammar.specs.declared.part.Pair.TheVariants as pair
-use Rattle.java_grammar.specs.Marks.{Mark, Line}
-use Rattle.java_grammar.specs.Words.{Nothing, ◌⨾◌, Either, Perhaps, Row, Is, IsOn, Word, Comma, Commas, PerhapsCommas}
+use Rattle.java_grammar.specs.Marks.{Line}
+use Rattle.java_grammar.specs.Words.{Nothing, ◌⨾◌, Either, Perhaps, Row, Is, IsOn, Word, Comma}
+use Rattle.java_grammar.specs.Words.{Commas, PerhapsCommas}
 use Rattle.java_grammar.specs.Expressions.{QName, InParentheses, ExprSpells}
 
 abbrev pub AnnLayer : Type 0
@@ -28,7 +28,8 @@ Pair Elem a = Word (out-ElemArg a).name ⨾ (Is part.Assign ⨾ Elem (out-ElemAr
 abbrev pub SoleValue : (ElemTree → Line) → List ElemArg → Line
 SoleValue Elem [] text = ⊥
 SoleValue Elem (a ∷ b ∷ rest) text = ⊥
-SoleValue Elem (a ∷ []) text = ((out-ElemArg a).name ≡ codes "value") × Elem (out-ElemArg a).value text
+SoleValue Elem (a ∷ []) text = ((out-ElemArg a).name ≡ codes "value") × Elem
+    (out-ElemArg a).value text
 
 abbrev pub NoElements : List ElemArg → Line
 NoElements args text = (args ≡ []) × Nothing text
@@ -36,7 +37,8 @@ NoElements args text = (args ≡ []) × Nothing text
 abbrev pub Elements : (ElemTree → Line) → List ElemArg → Line
 Elements Elem args =
     Either (NoElements args)
-    (InParentheses (Either (NoElements args) (Either (SoleValue Elem args) (Commas (Pair Elem) args))))
+    (InParentheses (Either (NoElements args)
+    (Either (SoleValue Elem args) (Commas (Pair Elem) args))))
 
 -- an annotation, whose elements are spelled as `Elem` says
 abbrev pub AnnLine : (ElemTree → Line) → AnnLayer → Line

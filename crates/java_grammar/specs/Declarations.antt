@@ -1,9 +1,11 @@
--- Which segments spell which declarations of types (JLS 8.1, 8.9, 8.10, 9.1, 9.6), and which lists of segments their bodies.
-use Rattle.std.specs.Prelude.{◌≡◌, ℕ, zero, suc, Bool, true, false, List, [], ◌∷◌, ◌++◌, map, codes, length, Some, ◌⊎◌}
+-- Which segments spell which declarations of types (JLS 8.1, 8.9, 8.10, 9.1, 9.6), and which
+-- lists of segments their bodies.
+use Rattle.std.specs.Prelude.{◌≡◌, ℕ, zero, suc, Bool, true, false, List, [], ◌∷◌, ◌++◌, map}
+use Rattle.std.specs.Prelude.{codes, length, Some}
 use Rattle.std.specs.List.{flat_map, AllByRecursion}
 use Rattle.segments.specs.declared.segment.Segment.{Segment, out-Segment}
-use Rattle.segments.specs.declared.segment.SegEnd.{SegEnd, out-SegEnd}
-use Rattle.segments.specs.declared.segment.SegEnd.TheOpen.{SegEnd-F, Segment-F}
+use Rattle.segments.specs.declared.segment.SegEnd.{out-SegEnd}
+use Rattle.segments.specs.declared.segment.SegEnd.TheOpen.{SegEnd-F}
 use Rattle.java_token.specs.declared.token.Token.{Token}
 use Rattle.java_ast.specs.declared.types.TypeTree.{TypeTree}
 use Rattle.java_ast.specs.declared.declaration.DeclKind.{DeclKind}
@@ -11,22 +13,26 @@ use Rattle.java_ast.specs.declared.declaration.DeclKind.TheVariants as declares
 use Rattle.java_ast.specs.declared.declaration.TypeDecl.{TypeDecl, out-TypeDecl}
 use Rattle.java_ast.specs.declared.declaration.Member.{Member}
 use Rattle.java_ast.specs.declared.declaration.Member.TheVariants as member
-use Rattle.java_ast.specs.declared.declaration.Member.TheOpen.{Member-F, TypeDecl-F}
+use Rattle.java_ast.specs.declared.declaration.Member.TheOpen.{TypeDecl-F}
 use Rattle.java_ast.specs.declared.declaration.EnumConst.{EnumConst}
 use Rattle.java_ast.specs.declared.member.FieldDecl.{FieldDecl}
 use Rattle.java_ast.specs.declared.member.MethodDecl.{MethodDecl}
+use Rattle.java_ast.specs.SoundUnits.{has_only}
 use Rattle.java_grammar.specs.declared.part.Part.TheVariants as part
 use Rattle.java_grammar.specs.declared.part.ModifierWord.TheVariants as modifier
 use Rattle.java_grammar.specs.declared.part.Pair.TheVariants as pair
 use Rattle.java_grammar.specs.Parts.{part_of, parts}
 use Rattle.java_grammar.specs.Extents.{partner_from}
 use Rattle.java_grammar.specs.Counts.{head_fits}
-use Rattle.java_grammar.specs.Marks.{Mark, Single, Group, Semi, Line, marks, head_marks, segment_marks, EndLayer}
-use Rattle.java_grammar.specs.Words.{Nothing, ◌⨾◌, Either, Perhaps, Row, Is, Word, WordOn, Comma, Commas, PerhapsCommas}
+use Rattle.java_grammar.specs.Marks.{Mark, Single, Semi, Line, marks, head_marks, segment_marks}
+use Rattle.java_grammar.specs.Marks.{EndLayer}
+use Rattle.java_grammar.specs.Words.{Nothing, ◌⨾◌, Perhaps, Row, Is, Word, WordOn, Comma}
+use Rattle.java_grammar.specs.Words.{PerhapsCommas}
 use Rattle.java_grammar.specs.Annotations.{AnnSpells}
 use Rattle.java_grammar.specs.Types.{NamedSpells, NamedTypes, TypeParams}
 use Rattle.java_grammar.specs.Modifiers.{ModifiersSpell}
-use Rattle.java_grammar.specs.Members.{SkippedGroup, Semicolon, FieldsSpell, MethodSpells, ConstructorSpells, CompactSpells, Components}
+use Rattle.java_grammar.specs.Members.{SkippedGroup, Semicolon, FieldsSpell, MethodSpells}
+use Rattle.java_grammar.specs.Members.{ConstructorSpells, CompactSpells, Components}
 
 -- ---- heads
 
@@ -60,44 +66,20 @@ Named d = WordOn d.line d.name
 -- behind the modifiers
 abbrev pub KindLine : DeclKind → DeclLayer → Line
 KindLine declares.Class d =
-    Is part.Class ⨾ (Named d ⨾ (TypeParams d.params ⨾ (Superclass d.extends ⨾ (Implements d.implements ⨾ Permits d.permits))))
+    Is part.Class ⨾ (Named d ⨾ (TypeParams d.params
+    ⨾ (Superclass d.extends ⨾ (Implements d.implements ⨾ Permits d.permits))))
 KindLine declares.Interface d =
-    Is part.Interface ⨾ (Named d ⨾ (TypeParams d.params ⨾ (Superinterfaces d.extends ⨾ Permits d.permits)))
+    Is part.Interface ⨾ (Named d ⨾
+    (TypeParams d.params ⨾ (Superinterfaces d.extends ⨾ Permits d.permits)))
 KindLine declares.Enumeration d = Is part.Enum ⨾ (Named d ⨾ Implements d.implements)
 KindLine declares.Recorded d =
-    Word (codes "record") ⨾ (Named d ⨾ (TypeParams d.params ⨾ (Components d.components ⨾ Implements d.implements)))
+    Word (codes "record") ⨾ (Named d
+    ⨾ (TypeParams d.params ⨾ (Components d.components ⨾ Implements d.implements)))
 KindLine declares.Annotation d = Is part.At ⨾ (Is part.Interface ⨾ Named d)
-
--- what a kind can't have is empty
-abbrev pub HasNoParams : DeclLayer → Type 0
-HasNoParams d = d.params ≡ []
-
-abbrev pub HasNoExtends : DeclLayer → Type 0
-HasNoExtends d = d.extends ≡ []
-
-abbrev pub HasNoImplements : DeclLayer → Type 0
-HasNoImplements d = d.implements ≡ []
-
-abbrev pub HasNoPermits : DeclLayer → Type 0
-HasNoPermits d = d.permits ≡ []
-
-abbrev pub HasNoConstants : DeclLayer → Type 0
-HasNoConstants d = d.constants ≡ []
-
-abbrev pub HasNoComponents : DeclLayer → Type 0
-HasNoComponents d = d.components ≡ []
-
-abbrev pub HasOnly : DeclKind → DeclLayer → Type 0
-HasOnly declares.Class d = HasNoConstants d × HasNoComponents d
-HasOnly declares.Interface d = HasNoImplements d × HasNoConstants d × HasNoComponents d
-HasOnly declares.Enumeration d = HasNoParams d × HasNoExtends d × HasNoPermits d × HasNoComponents d
-HasOnly declares.Recorded d = HasNoExtends d × HasNoPermits d × HasNoConstants d
-HasOnly declares.Annotation d =
-    HasNoParams d × HasNoExtends d × HasNoImplements d × HasNoPermits d × HasNoConstants d × HasNoComponents d
 
 pub record HeadSpells (d : DeclLayer) (text : List Mark) : Type 0 where
   pub spelled : (ModifiersSpell d.mods ⨾ KindLine d.kind d) text
-  pub only : HasOnly d.kind d
+  pub only : has_only d.kind d ≡ true
 
 -- ---- segments
 
@@ -125,21 +107,30 @@ HasBody s body = has_body (out-SegEnd (out-Segment s).end) body
 abbrev pub InitialiserBlock : Line
 InitialiserBlock = Perhaps (Is (part.Modifier modifier.Static)) ⨾ SkippedGroup
 
--- a segment in the body of a class of this kind and name, and the members that it gives, where `Nested` says which segments
--- spell which declarations of types
-pub data MemberSpells (Nested : TypeDecl → Segment → Type 0) (kind : DeclKind) (name : List ℕ) : List Member → Segment → Type 0 where
+-- a segment in the body of a class of this kind and name, and the members that it gives, where
+-- `Nested` says which segments spell which declarations of types
+pub data MemberSpells (Nested : TypeDecl → Segment → Type 0) (kind : DeclKind)
+    (name : List ℕ) : List Member → Segment → Type 0 where
   empty : (s : Segment) → IsEmpty s → MemberSpells Nested kind name [] s
   initialiser : (s : Segment) → Gives InitialiserBlock s → MemberSpells Nested kind name [] s
-  nested : (s : Segment) (d : TypeDecl) → Nested d s → MemberSpells Nested kind name (member.Nested d ∷ []) s
-  fields : (s : Segment) (fs : List FieldDecl) → Gives (FieldsSpell fs) s → MemberSpells Nested kind name (map member.Field fs) s
-  method : (s : Segment) (m : MethodDecl) → Gives (MethodSpells m) s → MemberSpells Nested kind name (member.Method m ∷ []) s
-  constructor : (s : Segment) (m : MethodDecl) → Gives (ConstructorSpells name m) s → MemberSpells Nested kind name (member.Method m ∷ []) s
-  compact : (s : Segment) (m : MethodDecl) → kind ≡ declares.Recorded → Gives (CompactSpells name m) s → MemberSpells Nested kind name (member.Method m ∷ []) s
+  nested : (s : Segment) (d : TypeDecl) → Nested d s
+      → MemberSpells Nested kind name (member.Nested d ∷ []) s
+  fields : (s : Segment) (fs : List FieldDecl) → Gives (FieldsSpell fs) s
+      → MemberSpells Nested kind name (map member.Field fs) s
+  method : (s : Segment) (m : MethodDecl) → Gives (MethodSpells m) s
+      → MemberSpells Nested kind name (member.Method m ∷ []) s
+  constructor : (s : Segment) (m : MethodDecl) → Gives (ConstructorSpells name m) s
+      → MemberSpells Nested kind name (member.Method m ∷ []) s
+  compact : (s : Segment) (m : MethodDecl) → kind ≡ declares.Recorded
+      → Gives (CompactSpells name m) s → MemberSpells Nested kind name (member.Method m ∷ []) s
 
-pub data MembersSpell (Nested : TypeDecl → Segment → Type 0) (kind : DeclKind) (name : List ℕ) : List Member → List Segment → Type 0 where
+pub data MembersSpell (Nested : TypeDecl → Segment → Type 0) (kind : DeclKind)
+    (name : List ℕ) : List Member → List Segment → Type 0 where
   none : MembersSpell Nested kind name [] []
-  one_more : (these others : List Member) (s : Segment) (segments : List Segment) → MemberSpells Nested kind name these s
-      → MembersSpell Nested kind name others segments → MembersSpell Nested kind name (these ++ others) (s ∷ segments)
+  one_more : (these others : List Member) (s : Segment) (segments : List Segment)
+      → MemberSpells Nested kind name these s
+      → MembersSpell Nested kind name others segments
+      → MembersSpell Nested kind name (these ++ others) (s ∷ segments)
 
 -- ---- bodies of enums (JLS 8.9.1)
 
@@ -156,7 +147,8 @@ ClassBody true = SkippedGroup
 ClassBody false = Nothing
 
 abbrev pub ConstantSpells : EnumConst → Line
-ConstantSpells c = Row AnnSpells c.anns ⨾ (WordOn c.line c.name ⨾ (Perhaps Arguments ⨾ ClassBody c.has_body))
+ConstantSpells c = Row AnnSpells c.anns
+    ⨾ (WordOn c.line c.name ⨾ (Perhaps Arguments ⨾ ClassBody c.has_body))
 
 abbrev pub Constants : List EnumConst → Line
 Constants constants = PerhapsCommas ConstantSpells constants ⨾ Perhaps Comma
@@ -178,25 +170,32 @@ EndsSkipped s = Fits s × (is_skipped (end_of s) ≡ true)
 abbrev pub EndsTail : Segment → Type 0
 EndsTail s = Fits s × (is_tail (end_of s) ≡ true)
 
--- the constants stand in some segments, each but the last with the body of a constant at its end, up to a `;` with the
--- members behind it, or up to the end
-pub data EnumBodySpells (Nested : TypeDecl → Segment → Type 0) (d : DeclLayer) : List Segment → Type 0 where
-  with_members : (front : List Segment) (s : Segment) (others : List Segment) → AllByRecursion EndsSkipped front → Fits s
+-- the constants stand in some segments, each but the last with the body of a constant at its end,
+-- up to a `;` with the members behind it, or up to the end
+pub data EnumBodySpells (Nested : TypeDecl → Segment → Type 0) (d : DeclLayer) : List Segment
+    → Type 0 where
+  with_members : (front : List Segment) (s : Segment) (others : List Segment)
+      → AllByRecursion EndsSkipped front → Fits s
       → (Constants d.constants ⨾ Semicolon) (flat_map segment_marks front ++ segment_marks s)
-      → MembersSpell Nested declares.Enumeration d.name d.members others → EnumBodySpells Nested d (front ++ s ∷ others)
+      → MembersSpell Nested declares.Enumeration d.name d.members others
+      → EnumBodySpells Nested d (front ++ s ∷ others)
   ends_in_body : (front : List Segment) → AllByRecursion EndsSkipped front
-      → Constants d.constants (flat_map segment_marks front) → d.members ≡ [] → EnumBodySpells Nested d front
-  ends_in_tail : (front : List Segment) (s : Segment) → AllByRecursion EndsSkipped front → EndsTail s
+      → Constants d.constants (flat_map segment_marks front) → d.members ≡ []
+      → EnumBodySpells Nested d front
+  ends_in_tail : (front : List Segment) (s : Segment) → AllByRecursion EndsSkipped front
+      → EndsTail s
       → Constants d.constants (flat_map segment_marks front ++ segment_marks s) → d.members ≡ []
       → EnumBodySpells Nested d (front ++ s ∷ [])
 
 -- ---- declarations
 
-abbrev pub BodySpells : (TypeDecl → Segment → Type 0) → DeclKind → DeclLayer → List Segment → Type 0
+abbrev pub BodySpells : (TypeDecl → Segment → Type 0) → DeclKind → DeclLayer → List Segment
+    → Type 0
 BodySpells Nested declares.Enumeration d body = EnumBodySpells Nested d body
 BodySpells Nested kind d body = MembersSpell Nested kind d.name d.members body
 
-pub record DeclLine (Nested : TypeDecl → Segment → Type 0) (d : DeclLayer) (s : Segment) : Type 0 where
+pub record DeclLine (Nested : TypeDecl → Segment → Type 0) (d : DeclLayer)
+    (s : Segment) : Type 0 where
   pub body : List Segment
   pub fits : Fits s
   pub head : HeadSpells d (head_marks s)
@@ -214,4 +213,5 @@ DeclSpells d s = (n : ℕ) × DeclWithin n d s
 
 -- the segments spell the body of the declaration
 abbrev pub BodySegments : TypeDecl → List Segment → Type 0
-BodySegments d body = (n : ℕ) × BodySpells (DeclWithin n) (out-TypeDecl d).kind (out-TypeDecl d) body
+BodySegments d body = (n : ℕ) × BodySpells (DeclWithin n) (out-TypeDecl d).kind
+    (out-TypeDecl d) body

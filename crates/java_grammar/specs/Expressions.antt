@@ -1,16 +1,15 @@
--- Which texts spell which expressions: constant expressions (JLS 15.29) and class literals (JLS 15.8.2), by the levels of
--- JLS 15.7.2 and 15.15 to 15.25.
-use Rattle.std.specs.Prelude.{◌≡◌, ◌≢◌, ℕ, zero, suc, ◌+◌, Bool, true, false, ◌==◌, nat_le, List, [], ◌∷◌, Option, Some, None, ◌⊎◌}
-use Rattle.std.specs.List.{list_all}
+-- Which texts spell which expressions: constant expressions (JLS 15.29) and class literals (JLS
+-- 15.8.2), by the levels of JLS 15.7.3 and 15.15 to 15.25, 15.8.1 to 15.8.5.
+use Rattle.std.specs.Prelude.{◌≡◌, ℕ, zero, suc, Bool, true, false, nat_le, List, [], ◌∷◌, None}
+use Rattle.std.specs.Prelude.{◌⊎◌}
 use Rattle.java_token.specs.declared.token.Token.{Token}
 use Rattle.java_token.specs.declared.token.TokenKind.TheVariants as kind
 use Rattle.java_token.specs.declared.token.LexLit.{LexLit}
 use Rattle.java_token.specs.declared.token.LexLit.TheVariants as lexed
 use Rattle.java_token.specs.declared.keyword.Kw.TheVariants as keyword
-use Rattle.java_ast.specs.declared.types.Primitive.{Primitive}
 use Rattle.java_ast.specs.declared.types.TypeTree.{TypeTree, out-TypeTree}
 use Rattle.java_ast.specs.declared.types.NamePart.{NamePart, out-NamePart}
-use Rattle.java_ast.specs.declared.types.ArgTree.TheOpen.{TypeTree-F, NamePart-F, ArgTree-F}
+use Rattle.java_ast.specs.declared.types.ArgTree.TheOpen.{TypeTree-F, NamePart-F}
 use Rattle.java_ast.specs.declared.types.ArgTree.{ArgTree}
 use Rattle.java_ast.specs.declared.expression.Expr.{Expr, out-Expr}
 use Rattle.java_ast.specs.declared.expression.Link.{Link, out-Link}
@@ -26,7 +25,7 @@ use Rattle.java_grammar.specs.declared.part.Part.TheVariants as part
 use Rattle.java_grammar.specs.declared.part.Pair.TheVariants as pair
 use Rattle.java_grammar.specs.Parts.{part_of}
 use Rattle.java_grammar.specs.Marks.{Mark, Single, Angle, Line}
-use Rattle.java_grammar.specs.Words.{Nothing, ◌⨾◌, Either, Perhaps, Row, Separated, Is, Word, WordOn}
+use Rattle.java_grammar.specs.Words.{Nothing, ◌⨾◌, Row, Separated, Is, Word, WordOn}
 
 -- ---- levels, from the loosest
 
@@ -108,7 +107,7 @@ Prefix unary.Minus = Is (part.Binary binary.Minus)
 Prefix unary.Complement = Is (part.Unary unary.Complement)
 Prefix unary.Not = Is (part.Unary unary.Not)
 
--- ---- types in expressions: names without type arguments, and nothing annotated (JLS 15.8.2, 15.16)
+-- ---- types in expressions: names without type arguments or annotations (JLS 15.8.2, 15.16)
 
 abbrev pub TypeLayer : Type 0
 TypeLayer = TypeTree-F ArgTree TypeTree NamePart
@@ -125,11 +124,13 @@ FurtherWord p = Dot ⨾ PlainWord (out-NamePart p) (Word (out-NamePart p).name)
 -- a name, its first word on this line of the source
 abbrev pub PlainName : ℕ → List NamePart → Line
 PlainName line [] text = ⊥
-PlainName line (p ∷ parts) text = (PlainWord (out-NamePart p) (WordOn line (out-NamePart p).name) ⨾ Row FurtherWord parts) text
+PlainName line (p ∷ parts) text =
+    (PlainWord (out-NamePart p) (WordOn line (out-NamePart p).name) ⨾ Row FurtherWord parts) text
 
 abbrev pub BracketPairs : ℕ → Line
 BracketPairs zero = Nothing
-BracketPairs (suc n) = Is (part.Opening pair.Brackets) ⨾ (Is (part.Closing pair.Brackets) ⨾ BracketPairs n)
+BracketPairs (suc n) = Is (part.Opening pair.Brackets)
+    ⨾ (Is (part.Closing pair.Brackets) ⨾ BracketPairs n)
 
 -- a primitive type or a name
 abbrev pub PlainBase : TypeLayer → Line
@@ -141,13 +142,15 @@ PlainBase _ text = ⊥
 abbrev pub LiteralType : TypeLayer → Line
 LiteralType TypeTree-F.Void = Is part.Void
 LiteralType (TypeTree-F.Array element zero) = λ text. ⊥
-LiteralType (TypeTree-F.Array element (suc n)) = PlainBase (out-TypeTree element) ⨾ BracketPairs (suc n)
+LiteralType (TypeTree-F.Array element (suc n)) = PlainBase (out-TypeTree element)
+    ⨾ BracketPairs (suc n)
 LiteralType base = PlainBase base
 
 -- ---- one node, whose operands are spelled as `Operand` says, at a level
 
 abbrev pub InParentheses : Line → Line
-InParentheses line = Is (part.Opening pair.Parentheses) ⨾ (line ⨾ Is (part.Closing pair.Parentheses))
+InParentheses line = Is (part.Opening pair.Parentheses)
+    ⨾ (line ⨾ Is (part.Closing pair.Parentheses))
 
 -- the text doesn't begin with `+` or `-`
 abbrev pub is_sign : Part → Bool
@@ -162,21 +165,25 @@ begins_with_sign _ = false
 abbrev pub Unsigned : Line → Line
 Unsigned line text = (begins_with_sign text ≡ false) × line text
 
--- a cast to a primitive type stands before any unary expression, one to a name before one that begins with no sign
+-- a cast to a primitive type stands before any unary expression, one to a name before one that
+-- begins with no sign
 abbrev pub CastLine : Line → TypeLayer → Line
 CastLine operand (TypeTree-F.Primitive p) = InParentheses (Is (part.Primitive p)) ⨾ operand
-CastLine operand (TypeTree-F.Named line parts) = InParentheses (PlainName line parts) ⨾ Unsigned operand
+CastLine operand (TypeTree-F.Named line parts) = InParentheses (PlainName line parts)
+    ⨾ Unsigned operand
 CastLine operand _ = λ text. ⊥
 
 abbrev pub LinkLine : (ℕ → Expr → Line) → ℕ → Link-F Expr Link → Line
-LinkLine Operand level l text = (operator_level l.op ≡ level) × (Operator l.op ⨾ Operand (suc level) l.right) text
+LinkLine Operand level l text = (operator_level l.op ≡ level) ×
+    (Operator l.op ⨾ Operand (suc level) l.right) text
 
 -- the operators of one level, from the left
 abbrev pub ChainLine : (ℕ → Expr → Line) → Expr → List Link → Line
 ChainLine Operand first [] text = ⊥
 ChainLine Operand first (l ∷ rest) text =
     let level = operator_level (out-Link l).op in
-    (Operand (suc level) first ⨾ Row (λ link. LinkLine Operand level (out-Link link)) (l ∷ rest)) text
+    (Operand (suc level) first ⨾ Row (λ link. LinkLine Operand level (out-Link link))
+    (l ∷ rest)) text
 
 abbrev pub NodeLine : (ℕ → Expr → Line) → Expr-F Expr Link → Line
 NodeLine Operand (Expr-F.Lit l) = Literal l
@@ -185,8 +192,11 @@ NodeLine Operand (Expr-F.ClassLit type) = LiteralType (out-TypeTree type) ⨾ (D
 NodeLine Operand (Expr-F.Unary op operand) = Prefix op ⨾ Operand unary_level operand
 NodeLine Operand (Expr-F.Chain first rest) = ChainLine Operand first rest
 NodeLine Operand (Expr-F.Cond test chosen other) =
-    Operand (suc conditional) test ⨾ (Is part.Question ⨾ (Operand conditional chosen ⨾ (Is part.Colon ⨾ Operand conditional other)))
-NodeLine Operand (Expr-F.Cast type operand) = CastLine (Operand unary_level operand) (out-TypeTree type)
+    Operand (suc conditional) test
+    ⨾ (Is part.Question ⨾ (Operand conditional chosen
+    ⨾ (Is part.Colon ⨾ Operand conditional other)))
+NodeLine Operand (Expr-F.Cast type operand) = CastLine (Operand unary_level operand)
+    (out-TypeTree type)
 
 -- the level of a node
 abbrev pub chain_level : List Link → ℕ
@@ -204,8 +214,9 @@ level_of (Expr-F.Cast type operand) = unary_level
 
 -- ---- expressions
 
--- an expression at a place of this level, with fewer than so many nodes and parentheses inside each other: a node of this
--- level or a tighter one, or any expression in parentheses (JLS 15.8.5)
+-- an expression at a place of this level, with fewer than so many nodes and parentheses inside
+-- each other: a node of this level or a tighter one, or any expression in parentheses (JLS
+-- 15.8.5)
 unfoldable pub ExprWithin : ℕ → ℕ → Expr → Line
 ExprWithin zero level e text = ⊥
 ExprWithin (suc n) level e text =

@@ -1,19 +1,20 @@
--- The extent of an initialiser (JLS 8.3.2), found without reading it: it ends at the first comma outside
--- brackets that stands in no type arguments, or at the end. All are functions of the parts of a list of tokens,
--- those behind the `=`.
-use Rattle.std.specs.Prelude.{ℕ, zero, suc, ◌+◌, ◌-◌, ◌==◌, Bool, true, false, ◌&&◌, nat_lt, if◌then◌else◌, List, [], ◌∷◌, Option, Some, None}
+-- The extent of an initialiser (JLS 8.3.2), found without reading it: the row of pieces at its
+-- front, where a comma is no piece. A piece is a group in brackets, an annotation, a token with
+-- the type behind it, a type before `::`, or a single token. All are functions of the parts of a
+-- list of tokens, those behind the `=`; each answers how many parts it has at the front, and 0
+-- where it isn't there.
+use Rattle.std.specs.Prelude.{ℕ, zero, suc, ◌+◌, ◌-◌, ◌==◌, Bool, false, ◌&&◌, nat_lt}
+use Rattle.std.specs.Prelude.{if◌then◌else◌, List, [], ◌∷◌, Option, Some, None}
 use Rattle.std.proofs.Common.{drop}
 use Rattle.java_grammar.specs.declared.part.Part.{Part}
 use Rattle.java_grammar.specs.declared.type_arguments.Angled.{Angled}
 use Rattle.java_grammar.specs.declared.type_arguments.AngleStep.{AngleStep}
 use Rattle.java_grammar.specs.declared.type_arguments.AngleStep.TheVariants as angle
-use Rattle.java_grammar.specs.declared.reference.TypePlace.{TypePlace}
-use Rattle.java_grammar.specs.declared.reference.TypePlace.TheVariants as place
-use Rattle.java_grammar.specs.declared.reference.TypeStep.{TypeStep}
-use Rattle.java_grammar.specs.declared.extent.ExtentPlace.{ExtentPlace}
-use Rattle.java_grammar.specs.declared.extent.ExtentPlace.TheVariants as extent
-use Rattle.java_grammar.specs.declared.extent.ExtentStep.{ExtentStep}
-use Rattle.java_grammar.specs.Tests.{is_opening, is_closing, is_group_start, is_bracket_start, is_bracket_end, is_dot, is_word, is_at, is_final, is_comma, is_less, is_double_colon, begins_type_behind, is_in_type_arguments, angles}
+use Rattle.java_grammar.specs.Tests.{is_opening, is_closing, is_group_start, is_bracket_start}
+use Rattle.java_grammar.specs.Tests.{is_bracket_end, is_dot, is_word, is_sealed, is_primitive}
+use Rattle.java_grammar.specs.Tests.{is_at, is_final, is_comma, is_less, is_double_colon}
+use Rattle.java_grammar.specs.Tests.{is_instanceof, begins_type_behind, is_in_type_arguments}
+use Rattle.java_grammar.specs.Tests.{angles}
 
 abbrev pub one_more : Option ℕ → Option ℕ
 one_more None = None
@@ -23,18 +24,54 @@ abbrev pub or_none : Option ℕ → ℕ
 or_none None = 0
 or_none (Some n) = n
 
+-- ---- rows
+
+abbrev pub passing : ℕ → (ℕ → ℕ) → ℕ
+passing zero behind = 0
+passing (suc more) behind = suc (behind more)
+
+-- the first `skip` parts stand in the row already
+abbrev pub row_from : (List Part → ℕ) → ℕ → List Part → ℕ
+row_from piece skip [] = 0
+row_from piece (suc skip) (p ∷ ps) = suc (row_from piece skip ps)
+row_from piece zero (p ∷ ps) = passing (piece (p ∷ ps)) (λ more. row_from piece more ps)
+
+-- pieces one behind the other, as long as there are some
+abbrev pub row_of : (List Part → ℕ) → List Part → ℕ
+row_of piece ps = row_from piece 0 ps
+
+-- the one, there or not, and the other behind it
+abbrev pub and_behind : (List Part → ℕ) → (List Part → ℕ) → List Part → ℕ
+and_behind one other ps = one ps + other (drop (one ps) ps)
+
+-- the one, and only where it is there the other behind it
+abbrev pub continued : ℕ → (List Part → ℕ) → List Part → ℕ
+continued zero other ps = 0
+continued (suc n) other ps = suc n + other (drop (suc n) ps)
+
+-- so many more before something, where that is there
+abbrev pub before : ℕ → ℕ → ℕ
+before n zero = 0
+before n (suc m) = n + suc m
+
 -- ---- groups
 
--- how many parts stand up to the partner of a bracket, itself counted, where `inside` more brackets are open:
--- the first closing one with as many opening as closing ones between the two, of whatever kind
+-- at a closing bracket, where `inside` others are open
+abbrev pub partner_if_closed : ℕ → Option ℕ → Option ℕ
+partner_if_closed inside behind = if inside == 0 then Some 1 else one_more behind
+
+-- how many parts stand up to the partner of a bracket, itself counted, where `inside` more
+-- brackets are open: the first closing one with as many opening as closing ones between the two,
+-- of whatever kind
 abbrev pub partner_from : ℕ → List Part → Option ℕ
 partner_from inside [] = None
 partner_from inside (p ∷ ps) =
     if is_opening p then one_more (partner_from (inside + 1) ps)
-    else (if is_closing p then (if inside == 0 then Some 1 else one_more (partner_from (inside - 1) ps))
+    else (if is_closing p then partner_if_closed inside (partner_from (inside - 1) ps)
     else one_more (partner_from inside ps))
 
--- how many parts behind an opening bracket are passed with it: up to its partner, and none where it has none
+-- how many parts behind an opening bracket are passed with it: up to its partner, and none where
+-- it has none
 unfoldable pub group_from : List Part → ℕ
 group_from ps = or_none (partner_from 0 ps)
 
@@ -45,7 +82,8 @@ is_further_word [] = false
 is_further_word (p ∷ []) = false
 is_further_word (p ∷ q ∷ ps) = is_dot p && is_word q
 
--- behind a word of a name: how many parts its further words have, with the dots before them (JLS 6.5)
+-- behind a word of a name: how many parts its further words have, with the dots before them (JLS
+-- 6.5)
 abbrev pub name_from : List Part → ℕ
 name_from [] = 0
 name_from (p ∷ []) = 0
@@ -59,15 +97,29 @@ elements_from (p ∷ ps) = if is_group_start p then or_none (one_more (partner_f
 abbrev pub name_and_elements_from : List Part → ℕ
 name_and_elements_from ps = name_from ps + elements_from (drop (name_from ps) ps)
 
--- behind a `@`: how many parts an annotation has, its name and the group behind it (JLS 9.7); 0 where there is none
+-- behind a `@`: how many parts an annotation has, its name and the group behind it (JLS 9.7); 0
+-- where there is none
 unfoldable pub annotation_from : List Part → ℕ
 annotation_from [] = 0
 annotation_from (p ∷ ps) = if is_word p then suc (name_and_elements_from ps) else 0
 
+-- an annotation, with its `@`
+unfoldable pub annotation_at : List Part → ℕ
+annotation_at [] = 0
+annotation_at (p ∷ ps) = if is_at p then before 1 (annotation_from ps) else 0
+
+unfoldable pub annotations_from : List Part → ℕ
+annotations_from ps = row_of annotation_at ps
+
+-- annotations and what stands behind them, where that is there
+unfoldable pub annotated_from : (List Part → ℕ) → List Part → ℕ
+annotated_from piece ps = before (annotations_from ps) (piece (drop (annotations_from ps) ps))
+
 -- ---- type arguments
 
--- what a part is in type arguments (JLS 4.5.1) with `depth` angles open: it goes on them with so many angles open, perhaps
--- with parts behind it, or closes them, with so many angles of its token left, or doesn't stand in them
+-- what a part is in type arguments (JLS 4.5.1) with `depth` angles open: it goes on them with so
+-- many angles open, perhaps with parts behind it, or closes them, with so many angles of its
+-- token left, or doesn't stand in them
 abbrev pub closing_angles : ℕ → ℕ → AngleStep
 closing_angles closed depth =
     if nat_lt closed depth then angle.GoesOn (depth - closed) 0 else angle.Closes (closed - depth)
@@ -76,13 +128,22 @@ closing_angles closed depth =
 abbrev pub annotated_angles : ℕ → ℕ → AngleStep
 annotated_angles depth more = if nat_lt 0 more then angle.GoesOn depth more else angle.Stops
 
+abbrev pub begins_with_bracket_end : List Part → Bool
+begins_with_bracket_end [] = false
+begins_with_bracket_end (p ∷ ps) = is_bracket_end p
+
+-- `[` stands there with its `]` alone
+abbrev pub dimension_step : ℕ → List Part → AngleStep
+dimension_step depth ps = if begins_with_bracket_end ps then angle.GoesOn depth 1 else angle.Stops
+
 unfoldable pub angle_step : ℕ → Part → List Part → AngleStep
 angle_step depth p ps =
     if is_in_type_arguments p then angle.GoesOn depth 0
+    else (if is_bracket_start p then dimension_step depth ps
     else (if is_less p then angle.GoesOn (depth + 1) 0
     else (if nat_lt 0 (angles p) then closing_angles (angles p) depth
     else (if is_at p then annotated_angles depth (annotation_from ps)
-    else angle.Stops)))
+    else angle.Stops))))
 
 abbrev pub one_more_angled : Option Angled → Option Angled
 one_more_angled None = None
@@ -93,155 +154,140 @@ angled_by (angle.GoesOn depth more) behind = one_more_angled (behind depth more)
 angled_by (angle.Closes left) behind = Some (record { count = 1; left = left })
 angled_by angle.Stops behind = None
 
--- type arguments with `depth` angles open, the first `skip` parts passed already: how many parts they have up to the token
--- that closes them, and how many angles of that are left; or that they aren't closed
+-- type arguments with `depth` angles open, the first `skip` parts passed already: how many parts
+-- they have up to the token that closes them, and how many angles of that are left; or that they
+-- aren't closed
 abbrev pub angled_from : ℕ → ℕ → List Part → Option Angled
 angled_from depth skip [] = None
 angled_from depth (suc skip) (p ∷ ps) = one_more_angled (angled_from depth skip ps)
-angled_from depth zero (p ∷ ps) = angled_by (angle_step depth p ps) (λ now more. angled_from now more ps)
+angled_from depth zero (p ∷ ps) = angled_by (angle_step depth p ps)
+    (λ now more. angled_from now more ps)
 
 -- behind a `<`
 unfoldable pub type_arguments_from : List Part → Option Angled
 type_arguments_from ps = angled_from 1 0 ps
 
--- ---- a type before `::`
+-- type arguments, with their `<`
+unfoldable pub arguments_at : List Part → Option Angled
+arguments_at [] = None
+arguments_at (p ∷ ps) = if is_less p then one_more_angled (type_arguments_from ps) else None
 
--- what goes on there
-abbrev pub goes_on : TypePlace → Part → Option TypePlace
-goes_on place.BehindArguments p =
-    if is_dot p then Some place.BehindDot else (if is_bracket_start p then Some place.BehindBracket else None)
-goes_on place.BehindWord p =
-    if is_dot p then Some place.BehindDot else (if is_bracket_start p then Some place.BehindBracket else None)
-goes_on place.BehindDot p = if is_word p then Some place.BehindWord else None
-goes_on place.BeforeBracket p = if is_bracket_start p then Some place.BehindBracket else None
-goes_on place.BehindBracket p = if is_bracket_end p then Some place.BehindDimension else None
-goes_on place.BehindDimension p = if is_bracket_start p then Some place.BehindBracket else None
+-- where their last token ends with them
+abbrev pub whole_arguments : Option Angled → ℕ
+whole_arguments None = 0
+whole_arguments (Some a) = if a.left == 0 then a.count else 0
 
--- whether a type may end there
-abbrev pub is_whole : TypePlace → Bool
-is_whole place.BehindArguments = true
-is_whole place.BehindWord = true
-is_whole place.BehindDimension = true
-is_whole place.BehindDot = false
-is_whole place.BeforeBracket = false
-is_whole place.BehindBracket = false
+-- where angles of their last token are left
+abbrev pub split_arguments : Option Angled → ℕ
+split_arguments None = 0
+split_arguments (Some a) = if a.left == 0 then 0 else a.count
 
--- where annotations lead, if they may stand there (JLS 4.3, 10.1)
-abbrev pub annotated : TypePlace → Option TypePlace
-annotated place.BehindArguments = Some place.BeforeBracket
-annotated place.BehindWord = Some place.BeforeBracket
-annotated place.BehindDimension = Some place.BeforeBracket
-annotated place.BeforeBracket = Some place.BeforeBracket
-annotated place.BehindDot = Some place.BehindDot
-annotated place.BehindBracket = None
+-- ---- types (JLS 4.3, 10.1), whose type arguments end with a token
 
--- type arguments may stand there
-abbrev pub takes_arguments : TypePlace → Bool
-takes_arguments place.BehindWord = true
-takes_arguments _ = false
+-- a word with its type arguments, if any
+unfoldable pub word_from : List Part → ℕ
+word_from [] = 0
+word_from (p ∷ ps) = if is_word p then suc (whole_arguments (arguments_at ps)) else 0
 
-abbrev pub step_to : ℕ → Option TypePlace → Option TypeStep
-step_to more None = None
-step_to more (Some next) = Some (record { next = next; more = more })
+-- a dot, annotations and a further word
+unfoldable pub further_at : List Part → ℕ
+further_at [] = 0
+further_at (p ∷ ps) = if is_dot p then before 1 (annotated_from word_from ps) else 0
 
-abbrev pub step_behind_arguments : Option Angled → Option TypeStep
-step_behind_arguments None = None
-step_behind_arguments (Some a) = if a.left == 0 then Some (record { next = place.BehindArguments; more = a.count }) else None
+-- `sealed` begins a type only where a further word follows it (JLS 3.9)
+abbrev pub sealed_from : ℕ → ℕ
+sealed_from zero = 0
+sealed_from (suc more) = 1
 
--- where the type goes on with this part and how many of those behind it, or that it ends before the part
-unfoldable pub type_step : TypePlace → Part → List Part → Option TypeStep
-type_step at p ps =
-    if is_at p then (if nat_lt 0 (annotation_from ps) then step_to (annotation_from ps) (annotated at) else None)
-    else (if is_less p && takes_arguments at then step_behind_arguments (type_arguments_from ps)
-    else step_to 0 (goes_on at p))
+unfoldable pub first_from : List Part → ℕ
+first_from [] = 0
+first_from (p ∷ ps) = if is_sealed p then sealed_from (further_at ps) else word_from (p ∷ ps)
 
-abbrev pub goes : Option TypeStep → (TypePlace → ℕ → Bool) → Bool
-goes None behind = false
-goes (Some s) behind = behind s.next s.more
+unfoldable pub named_from : List Part → ℕ
+named_from ps = continued (first_from ps) (row_of further_at) ps
 
--- these parts are the rest of a type with `::` behind it, the first `skip` of them passed
-abbrev pub reaches_from : TypePlace → ℕ → List Part → Bool
-reaches_from at skip [] = false
-reaches_from at (suc skip) (p ∷ ps) = reaches_from at skip ps
-reaches_from at zero (p ∷ ps) =
-    if is_double_colon p && is_whole at then true
-    else goes (type_step at p ps) (λ next more. reaches_from next more ps)
+-- a dimension, with annotations before it
+abbrev pub brackets_at : List Part → ℕ
+brackets_at [] = 0
+brackets_at (p ∷ ps) = if is_bracket_start p && begins_with_bracket_end ps then 2 else 0
 
--- behind a word: how many parts its type arguments have, where a type that begins so has `::` behind it (JLS 15.13);
--- else 0
-abbrev pub reference_by : Option Angled → List Part → ℕ
-reference_by None ps = 0
-reference_by (Some a) ps =
-    if a.left == 0 && reaches_from place.BehindArguments 0 (drop a.count ps) then suc a.count else 0
+unfoldable pub dimension_at : List Part → ℕ
+dimension_at ps = annotated_from brackets_at ps
 
-unfoldable pub reference_from : List Part → ℕ
-reference_from [] = 0
-reference_from (p ∷ ps) = if is_less p then reference_by (type_arguments_from ps) ps else 0
+-- a primitive type or a name, with its dimensions
+unfoldable pub base_from : List Part → ℕ
+base_from [] = 0
+base_from (p ∷ ps) = if is_primitive p then 1 else named_from (p ∷ ps)
 
--- ---- extents
+unfoldable pub type_from : List Part → ℕ
+type_from ps = continued (base_from ps) (row_of dimension_at) ps
 
--- `new`, `.`, `::` and `instanceof`, then perhaps `final`, annotations, type arguments, annotations and a type
--- (JLS 15.9, 15.10.1, 15.12, 15.13, 15.20.2): what may stand at a place
-abbrev pub annotated_place : ExtentPlace → ExtentPlace
-annotated_place extent.Behind = extent.BeforeArguments
-annotated_place extent.BeforeArguments = extent.BeforeArguments
-annotated_place extent.BeforeType = extent.BeforeType
-annotated_place extent.BehindName = extent.Anywhere
-annotated_place extent.Anywhere = extent.Anywhere
+-- ---- pieces
 
-abbrev pub is_before_arguments : ExtentPlace → Bool
-is_before_arguments extent.Behind = true
-is_before_arguments extent.BeforeArguments = true
-is_before_arguments extent.BeforeType = false
-is_before_arguments extent.BehindName = false
-is_before_arguments extent.Anywhere = false
+-- the longest type behind `new` and the like, but for its dimensions, which are pieces of their
+-- own: here the type arguments of its last word may end inside a token, and then nothing of it
+-- follows
+abbrev pub split_behind : List Part → ℕ
+split_behind ps = split_arguments (arguments_at ps)
 
-abbrev pub is_behind_name : ExtentPlace → Bool
-is_behind_name extent.BehindName = true
-is_behind_name _ = false
+abbrev pub split_named_from : List Part → ℕ
+split_named_from ps = continued (named_from ps) split_behind ps
 
-abbrev pub is_anywhere : ExtentPlace → Bool
-is_anywhere extent.Anywhere = true
-is_anywhere _ = false
+unfoldable pub longest_from : List Part → ℕ
+longest_from [] = 0
+longest_from (p ∷ ps) = if is_primitive p then 1 else split_named_from (p ∷ ps)
 
-abbrev pub is_behind : ExtentPlace → Bool
-is_behind extent.Behind = true
-is_behind _ = false
+abbrev pub typed_by : Option Angled → List Part → ℕ
+typed_by None ps = annotated_from longest_from ps
+typed_by (Some a) ps =
+    if a.left == 0 then a.count + annotated_from longest_from (drop a.count ps) else a.count
 
-abbrev pub to : ℕ → ExtentPlace → ExtentStep
-to more next = record { next = next; more = more }
+-- type arguments, annotations and a type, each if it is there
+unfoldable pub typed_from : List Part → ℕ
+typed_from ps = typed_by (arguments_at ps) ps
 
--- type arguments are passed where they are whole; where an angle of their last token is left, nothing of a type
--- follows them
-abbrev pub behind_arguments : Option Angled → ExtentPlace → ExtentStep
-behind_arguments None next = to 0 extent.Anywhere
-behind_arguments (Some a) next = to a.count (if a.left == 0 then next else extent.Anywhere)
+abbrev pub final_at : List Part → ℕ
+final_at [] = 0
+final_at (p ∷ ps) = if is_final p then 1 else 0
 
-abbrev pub annotated_step : ExtentPlace → ℕ → ExtentStep
-annotated_step at more = if nat_lt 0 more then to more (annotated_place at) else to 0 extent.Anywhere
+-- `final`, and annotations
+abbrev pub modifiers_from : List Part → ℕ
+modifiers_from ps = and_behind final_at annotations_from ps
 
-abbrev pub word_step : ExtentPlace → List Part → ExtentStep
-word_step at ps = if is_anywhere at then to (reference_from ps) extent.Anywhere else to 0 extent.BehindName
+-- the modifiers of a pattern, in any order (JLS 14.30.1)
+abbrev pub pattern_modifiers_from : List Part → ℕ
+pattern_modifiers_from ps = and_behind annotations_from modifiers_from ps
 
--- what is passed together with a part that is no comma: how many parts behind it, and the place behind these
-unfoldable pub extent_step : ExtentPlace → Part → List Part → ExtentStep
-extent_step at p ps =
-    if is_opening p then to (group_from ps) extent.Anywhere
-    else (if is_at p then annotated_step at (annotation_from ps)
-    else (if is_less p && is_before_arguments at then behind_arguments (type_arguments_from ps) extent.BeforeType
-    else (if is_less p && is_behind_name at then behind_arguments (type_arguments_from ps) extent.Anywhere
-    else (if is_word p then word_step at ps
-    else (if begins_type_behind p then to 0 extent.Behind
-    else (if is_final p && is_behind at then to 0 extent.BeforeArguments
-    else to 0 extent.Anywhere))))))
+-- behind `new`, `.` and `::` (JLS 15.9, 15.10.1, 15.11, 15.12, 15.13)
+unfoldable pub behind_from : List Part → ℕ
+behind_from ps = and_behind modifiers_from typed_from ps
 
--- how many parts stand before the first comma that is passed with nothing, the first `skip` parts passed
-abbrev pub extent_from : ExtentPlace → ℕ → List Part → ℕ
-extent_from at skip [] = 0
-extent_from at (suc skip) (p ∷ ps) = suc (extent_from at skip ps)
-extent_from at zero (p ∷ ps) =
+-- behind `instanceof` (JLS 15.20.2)
+unfoldable pub pattern_from : List Part → ℕ
+pattern_from ps = and_behind pattern_modifiers_from typed_from ps
+
+abbrev pub begins_with_double_colon : List Part → Bool
+begins_with_double_colon [] = false
+begins_with_double_colon (p ∷ ps) = is_double_colon p
+
+abbrev pub referred_by : ℕ → List Part → ℕ
+referred_by n ps = if begins_with_double_colon (drop n ps) then n else 1
+
+-- at a word: a type before `::` (JLS 15.13), else the word alone
+unfoldable pub referred_from : List Part → ℕ
+referred_from ps = referred_by (type_from ps) ps
+
+unfoldable pub piece_at : List Part → ℕ
+piece_at [] = 0
+piece_at (p ∷ ps) =
     if is_comma p then 0
-    else (let step = extent_step at p ps in suc (extent_from step.next step.more ps))
+    else (if is_opening p then suc (group_from ps)
+    else (if is_at p then suc (annotation_from ps)
+    else (if is_instanceof p then suc (pattern_from ps)
+    else (if begins_type_behind p then suc (behind_from ps)
+    else (if is_word p then referred_from (p ∷ ps)
+    else 1)))))
 
+-- how many parts the initialiser at the front has
 unfoldable pub extent_of : List Part → ℕ
-extent_of ps = extent_from extent.Anywhere 0 ps
+extent_of ps = row_of piece_at ps

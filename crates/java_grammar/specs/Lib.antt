@@ -3,8 +3,10 @@ pub mod Tests
 pub mod Extents
 pub mod Within
 pub mod Counts
+pub mod Running
 pub mod Marks
 pub mod Words
+pub mod Reading
 pub mod Expressions
 pub mod Annotations
 pub mod Types
@@ -12,3 +14,4 @@ pub mod Modifiers
 pub mod Members
 pub mod Declarations
 pub mod Units
+pub mod Fronts

@@ -4,12 +4,12 @@ use Rattle.std.specs.List.{flat_map}
 use Rattle.java_token.specs.declared.token.Token.{Token}
 use Rattle.segments.specs.declared.segment.Segment.{Segment, out-Segment}
 use Rattle.segments.specs.declared.segment.SegEnd.{SegEnd, out-SegEnd}
-use Rattle.segments.specs.declared.segment.SegEnd.TheOpen.{SegEnd-F, Segment-F}
+use Rattle.segments.specs.declared.segment.SegEnd.TheOpen.{SegEnd-F}
 use Rattle.java_grammar.specs.Parts.{part_of}
 use Rattle.java_grammar.specs.Tests.{angles}
 
--- a token without closing angles; one closing angle, of whose token more follow or none; a group in braces that is
--- skipped; the `;` that ends a segment
+-- a token without closing angles; one closing angle, of whose token more follow or none; a group
+-- in braces that is skipped; the `;` that ends a segment
 pub data Mark : Type 0 where
   Single : Token → Mark
   Angle : (more : Bool) → Mark

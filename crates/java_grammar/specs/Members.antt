@@ -1,6 +1,6 @@
--- Which texts spell which fields, methods and constructors (JLS 8.3, 8.4, 8.8, 8.10.4, 9.3, 9.4, 9.6.1), each in the text
--- of one segment.
-use Rattle.std.specs.Prelude.{◌≡◌, ℕ, zero, suc, ◌+◌, Bool, true, false, List, [], ◌∷◌, ◌++◌, length, codes, Option, Some, None, ◌⊎◌}
+-- Which texts spell which fields, methods and constructors (JLS 8.3, 8.4, 8.8, 8.10.4, 9.3, 9.4,
+-- 9.6.1), each in the text of one segment.
+use Rattle.std.specs.Prelude.{◌≡◌, ℕ, Bool, true, false, List, [], ◌∷◌, ◌++◌, length, codes, None}
 use Rattle.java_token.specs.declared.token.Token.{Token}
 use Rattle.java_ast.specs.declared.types.TypeTree.{TypeTree, out-TypeTree}
 use Rattle.java_ast.specs.declared.types.TypeTree.TheVariants as tree
@@ -22,10 +22,12 @@ use Rattle.java_grammar.specs.Parts.{part_of, parts}
 use Rattle.java_grammar.specs.Extents.{extent_of}
 use Rattle.java_grammar.specs.Counts.{is_plain}
 use Rattle.java_grammar.specs.Marks.{Mark, Single, Group, Semi, Line, marks}
-use Rattle.java_grammar.specs.Words.{Nothing, ◌⨾◌, Either, Perhaps, Given, Row, Is, Word, WordOn, Comma, Commas, PerhapsCommas}
+use Rattle.java_grammar.specs.Words.{Nothing, ◌⨾◌, Either, Perhaps, Given, Row, Is, Word, WordOn}
+use Rattle.java_grammar.specs.Words.{Comma, Commas, PerhapsCommas}
 use Rattle.java_grammar.specs.Expressions.{Dot, InParentheses, TypeLayer, ExprSpells}
 use Rattle.java_grammar.specs.Annotations.{AnyAnns, AnnSpells, ElemSpells}
-use Rattle.java_grammar.specs.Types.{Dims, TypeSpells, BareSpells, NamedTypes, TypeParams, more_dims}
+use Rattle.java_grammar.specs.Types.{Dims, TypeSpells, BareSpells, NamedTypes, TypeParams}
+use Rattle.java_grammar.specs.Types.{more_dims}
 use Rattle.java_grammar.specs.Modifiers.{ModifiersSpell, AnnotationsSpell}
 
 -- the end of a segment: a skipped group, or `;`
@@ -41,7 +43,8 @@ with_dims t n = more_dims t (out-TypeTree t) n
 -- ---- fields
 
 -- an initialiser, as the tokens of its extent before these tokens
-pub record Initialiser (is : List Token → Type 0) (behind : List Mark) (text : List Mark) : Type 0 where
+pub record Initialiser (is : List Token → Type 0) (behind : List Mark)
+    (text : List Mark) : Type 0 where
   pub assign : Token
   pub tokens : List Token
   pub following : List Token
@@ -58,10 +61,12 @@ IsExpression tokens e = (is_plain (parts tokens) ≡ true) × ExprSpells e (mark
 abbrev pub InitSpells : Init → List Mark → Line
 InitSpells init.Absent behind = Nothing
 InitSpells (init.Plain e) behind = Initialiser (λ tokens. IsExpression tokens e) behind
-InitSpells init.Other behind = Initialiser (λ tokens. (e : Expr) → IsExpression tokens e → ⊥) behind
+InitSpells init.Other behind = Initialiser
+    (λ tokens. (e : Expr) → IsExpression tokens e → ⊥) behind
 
 -- a declarator (JLS 8.3) before this text, of a field with these modifiers and this type
-pub record DeclaratorSpells (mods : Modifiers) (base : TypeTree) (f : FieldDecl) (behind text : List Mark) : Type 0 where
+pub record DeclaratorSpells (mods : Modifiers) (base : TypeTree) (f : FieldDecl)
+    (behind text : List Mark) : Type 0 where
   pub dims : ℕ
   pub spelled : (WordOn f.line f.name ⨾ (Dims dims ⨾ InitSpells f.init behind)) text
   pub same_mods : f.mods ≡ mods
@@ -95,7 +100,8 @@ Ellipsis false = Nothing
 pub record FormalSpells (p : Param) (text : List Mark) : Type 0 where
   pub base : TypeTree
   pub dims : ℕ
-  pub spelled : (ModifiersSpell p.mods ⨾ (BareSpells base ⨾ (Ellipsis p.varargs ⨾ (WordOn p.line p.name ⨾ Dims dims)))) text
+  pub spelled : (ModifiersSpell p.mods
+      ⨾ (BareSpells base ⨾ (Ellipsis p.varargs ⨾ (WordOn p.line p.name ⨾ Dims dims)))) text
   pub type : p.ty ≡ with_dims base dims
 
 abbrev pub AnyType : Line
@@ -113,12 +119,14 @@ BehindReceiver [] = Nothing
 BehindReceiver (p ∷ formals) = Comma ⨾ Commas FormalSpells (p ∷ formals)
 
 abbrev pub Formals : List Param → Line
-Formals formals = InParentheses (Either (PerhapsCommas FormalSpells formals) (Receiver ⨾ BehindReceiver formals))
+Formals formals = InParentheses
+    (Either (PerhapsCommas FormalSpells formals) (Receiver ⨾ BehindReceiver formals))
 
 -- ---- components of records (JLS 8.10.1)
 
 abbrev pub ComponentSpells : Param → Line
-ComponentSpells p = AnnotationsSpell p.mods ⨾ (BareSpells p.ty ⨾ (Ellipsis p.varargs ⨾ WordOn p.line p.name))
+ComponentSpells p = AnnotationsSpell p.mods
+    ⨾ (BareSpells p.ty ⨾ (Ellipsis p.varargs ⨾ WordOn p.line p.name))
 
 abbrev pub Components : List Param → Line
 Components components = InParentheses (PerhapsCommas ComponentSpells components)
@@ -157,8 +165,11 @@ pub record MethodSpells (m : MethodDecl) (text : List Mark) : Type 0 where
   pub anns : List AnnTree
   pub base : TypeTree
   pub dims : ℕ
-  pub spelled : (ModifiersSpell mods ⨾ (Generic m.params anns ⨾ (Result (out-TypeTree base) base dims ⨾ (WordOn m.line m.name
-      ⨾ (Formals m.formals ⨾ (Dims dims ⨾ (Throws m.throws ⨾ (Given DefaultValue m.default_value ⨾ Either SkippedGroup Semicolon)))))))) text
+  pub spelled : (ModifiersSpell mods
+      ⨾ (Generic m.params anns ⨾ (Result (out-TypeTree base) base dims ⨾ (WordOn m.line m.name
+      ⨾ (Formals m.formals ⨾ (Dims dims
+      ⨾ (Throws m.throws ⨾ (Given DefaultValue m.default_value
+      ⨾ Either SkippedGroup Semicolon)))))))) text
   pub kind : m.kind ≡ method.Plain
   pub all_mods : m.mods ≡ with_anns mods anns
   pub result : m.ret ≡ with_dims base dims
@@ -169,7 +180,8 @@ abbrev pub IsInitialiser : MethodDecl → Type 0
 IsInitialiser m = (m.name ≡ codes "<init>") × (m.ret ≡ tree.Void) × (m.default_value ≡ None)
 
 pub record ConstructorSpells (name : List ℕ) (m : MethodDecl) (text : List Mark) : Type 0 where
-  pub spelled : (ModifiersSpell m.mods ⨾ (TypeParams m.params ⨾ (WordOn m.line name ⨾ (Formals m.formals
+  pub spelled : (ModifiersSpell m.mods
+      ⨾ (TypeParams m.params ⨾ (WordOn m.line name ⨾ (Formals m.formals
       ⨾ (Throws m.throws ⨾ SkippedGroup))))) text
   pub kind : m.kind ≡ method.Constructor
   pub initialises : IsInitialiser m

@@ -1,8 +1,13 @@
--- Which texts spell which modifiers, annotations among them (JLS 8.1.1, 8.3.1, 8.4.3, 8.8.3, 9.1.1, 9.4).
-use Rattle.std.specs.Prelude.{◌≡◌, ℕ, ◌≤◌, Bool, true, false, List, [], ◌∷◌, ◌++◌, codes, sum_by, count_by}
+-- Which texts spell which modifiers, annotations among them (JLS 8.1.1, 8.3.1, 8.4.3, 8.8.3,
+-- 9.1.1, 9.4).
+use Rattle.std.specs.Prelude.{◌≡◌, ℕ, ◌≤◌, Bool, true, false, List, [], ◌∷◌, ◌++◌, codes, sum_by}
+use Rattle.std.specs.Prelude.{count_by}
 use Rattle.std.specs.List.{list_any, flat_map}
 use Rattle.java_ast.specs.declared.annotation.AnnTree.{AnnTree}
 use Rattle.java_ast.specs.declared.modifiers.Modifiers.{Modifiers}
+use Rattle.java_ast.specs.declared.modifiers.TheConstants.{PUBLIC, PRIVATE, PROTECTED, STATIC}
+use Rattle.java_ast.specs.declared.modifiers.TheConstants.{FINAL, SYNCHRONIZED, VOLATILE}
+use Rattle.java_ast.specs.declared.modifiers.TheConstants.{TRANSIENT, NATIVE, ABSTRACT}
 use Rattle.java_ast.specs.declared.expression.BinOp.TheVariants as binary
 use Rattle.java_grammar.specs.declared.part.Part.TheVariants as part
 use Rattle.java_grammar.specs.declared.part.ModifierWord.{ModifierWord}
@@ -22,7 +27,8 @@ abbrev pub ModifierLine : Modifier → Line
 ModifierLine (Annotation a) = AnnSpells a
 ModifierLine (Keyword word) = Is (part.Modifier word)
 ModifierLine Sealed = Word (codes "sealed")
-ModifierLine NonSealed = Word (codes "non") ⨾ (Is (part.Binary binary.Minus) ⨾ Word (codes "sealed"))
+ModifierLine NonSealed = Word (codes "non")
+    ⨾ (Is (part.Binary binary.Minus) ⨾ Word (codes "sealed"))
 
 abbrev pub is_annotation : Modifier → Bool
 is_annotation (Annotation a) = true
@@ -41,16 +47,16 @@ is_access _ = false
 
 -- the access flags of the words (JVMS 4.1, 4.5, 4.6); `strictfp` has none, nor has `default`
 abbrev pub flag_of : ModifierWord → ℕ
-flag_of modifier.Public = 0x0001
-flag_of modifier.Private = 0x0002
-flag_of modifier.Protected = 0x0004
-flag_of modifier.Static = 0x0008
-flag_of modifier.Final = 0x0010
-flag_of modifier.Synchronized = 0x0020
-flag_of modifier.Volatile = 0x0040
-flag_of modifier.Transient = 0x0080
-flag_of modifier.Native = 0x0100
-flag_of modifier.Abstract = 0x0400
+flag_of modifier.Public = PUBLIC
+flag_of modifier.Private = PRIVATE
+flag_of modifier.Protected = PROTECTED
+flag_of modifier.Static = STATIC
+flag_of modifier.Final = FINAL
+flag_of modifier.Synchronized = SYNCHRONIZED
+flag_of modifier.Volatile = VOLATILE
+flag_of modifier.Transient = TRANSIENT
+flag_of modifier.Native = NATIVE
+flag_of modifier.Abstract = ABSTRACT
 flag_of modifier.Strictfp = 0
 flag_of modifier.Default = 0
 
@@ -84,7 +90,8 @@ modifiers_of items = record {
   anns = flat_map annotation_of items;
 }
 
--- the text spells the modifiers: in any order, each word once, at most one of `public`, `protected` and `private`
+-- the text spells the modifiers: in any order, each word once, at most one of `public`,
+-- `protected` and `private`
 pub record ModifiersSpell (mods : Modifiers) (text : List Mark) : Type 0 where
   pub items : List Modifier
   pub spelled : Row ModifierLine items text
@@ -96,4 +103,10 @@ pub record ModifiersSpell (mods : Modifiers) (text : List Mark) : Type 0 where
 pub record AnnotationsSpell (mods : Modifiers) (text : List Mark) : Type 0 where
   pub anns : List AnnTree
   pub spelled : Row AnnSpells anns text
-  pub whole : mods ≡ record { flags = 0; is_default = false; is_sealed = false; non_sealed = false; anns = anns }
+  pub whole : mods ≡ record {
+    flags = 0;
+    is_default = false;
+    is_sealed = false;
+    non_sealed = false;
+    anns = anns;
+  }

@@ -1,5 +1,6 @@
 -- What a token is to the grammar of declarations.
-use Rattle.std.specs.Prelude.{List, map}
+use Rattle.std.specs.Prelude.{ℕ, Bool, List, map, codes, nat_eq, if◌then◌else◌}
+use lib.Pointwise.{pointwise}
 use Rattle.java_token.specs.declared.token.Token.{Token}
 use Rattle.java_token.specs.declared.token.TokenKind.{TokenKind}
 use Rattle.java_token.specs.declared.token.TokenKind.TheVariants as kind
@@ -93,10 +94,18 @@ operator_part op.Xor = part.Binary binary.Xor
 operator_part op.Or = part.Binary binary.Or
 operator_part op.AndAnd = part.Binary binary.AndAnd
 operator_part op.OrOr = part.Binary binary.OrOr
-operator_part _ = part.Other
+operator_part _ = part.OtherOperator
+
+-- `sealed` is the one contextual keyword (JLS 3.9) that a type's first word may be only before a
+-- further word
+abbrev pub is_sealed_name : List ℕ → Bool
+is_sealed_name name = pointwise nat_eq name (codes "sealed")
+
+abbrev pub word_part : List ℕ → Part
+word_part name = if is_sealed_name name then part.Sealed else part.Word
 
 abbrev pub kind_part : TokenKind → Part
-kind_part (kind.Word name) = part.Word
+kind_part (kind.Word name) = word_part name
 kind_part (kind.Keyword keyword) = keyword_part keyword
 kind_part (kind.Lit literal) = part.Literal
 kind_part (kind.Op operator) = operator_part operator

@@ -30,9 +30,19 @@ abbrev pub is_bracket_end : Part → Bool
 is_bracket_end (part.Closing pair.Brackets) = true
 is_bracket_end _ = false
 
+-- the word `sealed`
+abbrev pub is_sealed : Part → Bool
+is_sealed part.Sealed = true
+is_sealed _ = false
+
 abbrev pub is_word : Part → Bool
 is_word part.Word = true
+is_word part.Sealed = true
 is_word _ = false
+
+abbrev pub is_primitive : Part → Bool
+is_primitive (part.Primitive _) = true
+is_primitive _ = false
 
 abbrev pub is_dot : Part → Bool
 is_dot part.Dot = true
@@ -70,23 +80,25 @@ abbrev pub angles : Part → ℕ
 angles (part.Binary operator) = operator_angles operator
 angles _ = 0
 
--- behind these a type may stand in an expression (JLS 15.9, 15.10.1, 15.12, 15.13, 15.20.2)
+abbrev pub is_instanceof : Part → Bool
+is_instanceof part.Instanceof = true
+is_instanceof _ = false
+
+-- behind these, too, a type may stand in an expression (JLS 15.9, 15.10.1, 15.11, 15.12, 15.13)
 abbrev pub begins_type_behind : Part → Bool
 begins_type_behind part.New = true
 begins_type_behind part.Dot = true
 begins_type_behind part.DoubleColon = true
-begins_type_behind part.Instanceof = true
 begins_type_behind _ = false
 
--- what stands in type arguments beside angles and annotations (JLS 4.5.1)
+-- what stands in type arguments beside angles, annotations and dimensions (JLS 4.5.1)
 abbrev pub is_in_type_arguments : Part → Bool
 is_in_type_arguments part.Word = true
+is_in_type_arguments part.Sealed = true
 is_in_type_arguments (part.Primitive _) = true
 is_in_type_arguments part.Dot = true
 is_in_type_arguments part.Comma = true
 is_in_type_arguments part.Question = true
-is_in_type_arguments (part.Opening pair.Brackets) = true
-is_in_type_arguments (part.Closing pair.Brackets) = true
 is_in_type_arguments part.Extends = true
 is_in_type_arguments part.Super = true
 is_in_type_arguments _ = false

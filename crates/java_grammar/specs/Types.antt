@@ -1,17 +1,20 @@
--- Which texts spell which types (JLS 4.1 to 4.5, 10.1). Their annotations (JLS 9.7.4) leave nothing in the tree.
-use Rattle.std.specs.Prelude.{◌≡◌, ℕ, zero, suc, ◌+◌, Bool, true, false, not, ◌&&◌, ◌||◌, List, [], ◌∷◌, codes, nat_eq, Option, Some, None, is_none}
-use lib.Pointwise.{pointwise}
+-- Which texts spell which types (JLS 4.1 to 4.5, 10.1). Their annotations (JLS 9.7.4) leave
+-- nothing in the tree.
+use Rattle.std.specs.Prelude.{◌≡◌, ℕ, zero, suc, ◌+◌, Bool, true, false, not, ◌&&◌, ◌||◌, List}
+use Rattle.std.specs.Prelude.{[], ◌∷◌, is_none}
 use Rattle.java_ast.specs.declared.types.TypeTree.{TypeTree, out-TypeTree}
 use Rattle.java_ast.specs.declared.types.TypeTree.TheVariants as tree
 use Rattle.java_ast.specs.declared.types.NamePart.{NamePart, out-NamePart}
 use Rattle.java_ast.specs.declared.types.ArgTree.{ArgTree, out-ArgTree}
-use Rattle.java_ast.specs.declared.types.ArgTree.TheOpen.{TypeTree-F, NamePart-F, ArgTree-F}
+use Rattle.java_ast.specs.declared.types.ArgTree.TheOpen.{TypeTree-F, ArgTree-F}
 use Rattle.java_ast.specs.declared.declaration.TypeParam.{TypeParam}
 use Rattle.java_grammar.specs.declared.part.Part.TheVariants as part
 use Rattle.java_grammar.specs.declared.part.Pair.TheVariants as pair
 use Rattle.java_ast.specs.declared.expression.BinOp.TheVariants as binary
-use Rattle.java_grammar.specs.Marks.{Mark, Line}
-use Rattle.java_grammar.specs.Words.{Nothing, ◌⨾◌, Either, Perhaps, Given, Row, Separated, Is, Word, WordOn, ClosingAngle, Commas, PerhapsCommas}
+use Rattle.java_grammar.specs.Parts.{is_sealed_name}
+use Rattle.java_grammar.specs.Marks.{Line}
+use Rattle.java_grammar.specs.Words.{Nothing, ◌⨾◌, Given, Row, Separated, Is, Word, WordOn}
+use Rattle.java_grammar.specs.Words.{ClosingAngle, Commas, PerhapsCommas}
 use Rattle.java_grammar.specs.Expressions.{Dot, TypeLayer, PartLayer}
 use Rattle.java_grammar.specs.Annotations.{AnyAnns}
 
@@ -26,7 +29,8 @@ InAngles line = Is (part.Binary binary.Less) ⨾ (line ⨾ ClosingAngle)
 -- dimensions, each with annotations before it (JLS 10.2)
 abbrev pub Dims : ℕ → Line
 Dims zero = Nothing
-Dims (suc n) = AnyAnns ⨾ (Is (part.Opening pair.Brackets) ⨾ (Is (part.Closing pair.Brackets) ⨾ Dims n))
+Dims (suc n) = AnyAnns ⨾ (Is (part.Opening pair.Brackets)
+    ⨾ (Is (part.Closing pair.Brackets) ⨾ Dims n))
 
 -- a type argument is no primitive type
 abbrev pub is_primitive : TypeLayer → Bool
@@ -39,8 +43,10 @@ Reference Inner t text = (is_primitive (out-TypeTree t) ≡ false) × Inner t te
 -- JLS 4.5.1
 abbrev pub ArgLine : (TypeTree → Line) → ArgLayer → Line
 ArgLine Inner (ArgTree-F.Exact t) = Reference Inner t
-ArgLine Inner (ArgTree-F.Extends t) = AnyAnns ⨾ (Is part.Question ⨾ (Is part.Extends ⨾ Reference Inner t))
-ArgLine Inner (ArgTree-F.Super t) = AnyAnns ⨾ (Is part.Question ⨾ (Is part.Super ⨾ Reference Inner t))
+ArgLine Inner (ArgTree-F.Extends t) = AnyAnns
+    ⨾ (Is part.Question ⨾ (Is part.Extends ⨾ Reference Inner t))
+ArgLine Inner (ArgTree-F.Super t) = AnyAnns
+    ⨾ (Is part.Question ⨾ (Is part.Super ⨾ Reference Inner t))
 ArgLine Inner ArgTree-F.Any = AnyAnns ⨾ Is part.Question
 
 abbrev pub Args : (TypeTree → Line) → List ArgTree → Line
@@ -50,23 +56,23 @@ abbrev pub FurtherPart : (TypeTree → Line) → NamePart → Line
 FurtherPart Inner p =
     Dot ⨾ (AnyAnns ⨾ (Word (out-NamePart p).name ⨾ Given (Args Inner) (out-NamePart p).args))
 
--- `sealed` begins a type only where a dot follows it
-abbrev pub is_sealed_word : List ℕ → Bool
-is_sealed_word name = pointwise nat_eq name (codes "sealed")
-
 abbrev pub is_empty : {X : Type 0} → List X → Bool
 is_empty [] = true
 is_empty (x ∷ xs) = false
 
+-- `sealed` begins a type only where a further word follows it (JLS 3.9)
 abbrev pub may_begin : PartLayer → List NamePart → Bool
-may_begin first further = not (is_sealed_word first.name) || (is_none first.args && not (is_empty further))
+may_begin first further = not (is_sealed_name first.name)
+    || (is_none first.args && not (is_empty further))
 
--- a name with type arguments, without annotations before it, its first word on this line of the source
+-- a name with type arguments, without annotations before it, its first word on this line of the
+-- source
 abbrev pub NamedLine : (TypeTree → Line) → ℕ → List NamePart → Line
 NamedLine Inner line [] text = ⊥
 NamedLine Inner line (p ∷ parts) text =
     (may_begin (out-NamePart p) parts ≡ true)
-    × (WordOn line (out-NamePart p).name ⨾ (Given (Args Inner) (out-NamePart p).args ⨾ Row (FurtherPart Inner) parts)) text
+    × (WordOn line (out-NamePart p).name
+    ⨾ (Given (Args Inner) (out-NamePart p).args ⨾ Row (FurtherPart Inner) parts)) text
 
 -- a primitive type or a name
 abbrev pub BaseLine : (TypeTree → Line) → TypeLayer → Line
@@ -78,7 +84,8 @@ BaseLine Inner (TypeTree-F.Array element dims) text = ⊥
 -- a type without annotations before it
 abbrev pub BareLine : (TypeTree → Line) → TypeLayer → Line
 BareLine Inner (TypeTree-F.Array element zero) = λ text. ⊥
-BareLine Inner (TypeTree-F.Array element (suc n)) = BaseLine Inner (out-TypeTree element) ⨾ Dims (suc n)
+BareLine Inner (TypeTree-F.Array element (suc n)) = BaseLine Inner (out-TypeTree element)
+    ⨾ Dims (suc n)
 BareLine Inner base = BaseLine Inner base
 
 -- ---- types
@@ -96,7 +103,8 @@ TypeSpells t text = (n : ℕ) × TypeWithin n t text
 abbrev pub BareSpells : TypeTree → Line
 BareSpells t text = (n : ℕ) × BareLine (TypeWithin n) (out-TypeTree t) text
 
--- a name, with no dimension: what is extended, implemented, permitted, thrown, or bounds a type parameter
+-- a name, with no dimension: what is extended, implemented, permitted, thrown, or bounds a type
+-- parameter
 abbrev pub is_named : TypeLayer → Bool
 is_named (TypeTree-F.Named line parts) = true
 is_named _ = false
@@ -112,7 +120,8 @@ NamedTypes types = Commas NamedSpells types
 
 abbrev pub Bounds : List TypeTree → Line
 Bounds [] = Nothing
-Bounds (t ∷ bounds) = Is part.Extends ⨾ Separated (Is (part.Binary binary.And)) NamedSpells (t ∷ bounds)
+Bounds (t ∷ bounds) = Is part.Extends
+    ⨾ Separated (Is (part.Binary binary.And)) NamedSpells (t ∷ bounds)
 
 abbrev pub ParamSpells : TypeParam → Line
 ParamSpells p = AnyAnns ⨾ (Word p.name ⨾ Bounds p.bounds)

@@ -1,5 +1,6 @@
--- Which lists of segments spell which compilation units (JLS 7.3 to 7.6), and where a list of segments stops to begin one.
-use Rattle.std.specs.Prelude.{◌≡◌, ℕ, ◌<◌, ◌+◌, Bool, true, false, List, [], ◌∷◌, ◌++◌, length, take, slice_get, Option, Some, None, ◌⊎◌}
+-- Which lists of segments spell which compilation units (JLS 7.3 to 7.6), and where a list of
+-- segments stops to begin one.
+use Rattle.std.specs.Prelude.{◌≡◌, ℕ, Bool, true, false, List, [], ◌∷◌, ◌++◌}
 use Rattle.segments.specs.declared.segment.Segment.{Segment, out-Segment}
 use Rattle.segments.specs.declared.segment.SegEnd.TheVariants as ends
 use Rattle.java_ast.specs.declared.declaration.DeclKind.{DeclKind}
@@ -9,18 +10,20 @@ use Rattle.java_ast.specs.declared.unit.Unit as unit
 use Rattle.java_ast.specs.declared.expression.BinOp.TheVariants as binary
 use Rattle.java_grammar.specs.declared.part.Part.TheVariants as part
 use Rattle.java_grammar.specs.declared.part.ModifierWord.TheVariants as modifier
-use Rattle.java_grammar.specs.Marks.{Mark, Line, head_marks}
+use Rattle.java_grammar.specs.Marks.{Line, head_marks}
 use Rattle.java_grammar.specs.Words.{Nothing, ◌⨾◌, Is, IsOn}
 use Rattle.java_grammar.specs.Expressions.{Dot, QName}
 use Rattle.java_grammar.specs.Members.{Semicolon}
-use Rattle.java_grammar.specs.Declarations.{Fits, Gives, IsEmpty, HeadSpells, HasBody, DeclSpells, BodySegments}
+use Rattle.java_grammar.specs.Declarations.{Gives, IsEmpty, HeadSpells, HasBody, DeclSpells}
+use Rattle.java_grammar.specs.Declarations.{BodySegments}
 
 -- ---- packages and imports
 
 -- JLS 7.4: none, or one segment
 abbrev pub PackageSpells : List (List ℕ) → List Segment → Type 0
 PackageSpells [] segments = segments ≡ []
-PackageSpells (word ∷ words) (s ∷ []) = Gives (Is part.Package ⨾ (QName (word ∷ words) ⨾ Semicolon)) s
+PackageSpells (word ∷ words) (s ∷ []) = Gives
+    (Is part.Package ⨾ (QName (word ∷ words) ⨾ Semicolon)) s
 PackageSpells words segments = ⊥
 
 abbrev pub Static : Bool → Line
@@ -33,13 +36,16 @@ OnDemand false = Nothing
 
 -- JLS 7.5
 abbrev pub ImportSpells : Import → Segment → Type 0
-ImportSpells i s = Gives (IsOn i.line part.Import ⨾ (Static i.is_static ⨾ (QName i.names ⨾ (OnDemand i.on_demand ⨾ Semicolon)))) s
+ImportSpells i s = Gives (IsOn i.line part.Import
+    ⨾ (Static i.is_static ⨾ (QName i.names ⨾ (OnDemand i.on_demand ⨾ Semicolon)))) s
 
 -- a segment for each item, and any number of segments that are a `;` alone
 pub data Items {X : Type 0} (Spells : X → Segment → Type 0) : List X → List Segment → Type 0 where
   none : Items Spells [] []
-  empty : (xs : List X) (s : Segment) (segments : List Segment) → IsEmpty s → Items Spells xs segments → Items Spells xs (s ∷ segments)
-  item : (x : X) (xs : List X) (s : Segment) (segments : List Segment) → Spells x s → Items Spells xs segments
+  empty : (xs : List X) (s : Segment) (segments : List Segment) → IsEmpty s
+      → Items Spells xs segments → Items Spells xs (s ∷ segments)
+  item : (x : X) (xs : List X) (s : Segment) (segments : List Segment) → Spells x s
+      → Items Spells xs segments
       → Items Spells (x ∷ xs) (s ∷ segments)
 
 -- ---- units
@@ -67,7 +73,8 @@ pub record IsBody (kind : DeclKind) (name : List ℕ) (segments : List Segment) 
   pub same_name : (out-TypeDecl declaration).name ≡ name
   pub spelled : BodySegments declaration segments
 
--- where a list of segments stands: it is a unit's, or that of the body of a class of this kind and name
+-- where a list of segments stands: it is a unit's, or that of the body of a class of this kind
+-- and name
 pub data Context : Type 0 where
   OfUnit : Context
   OfBody : DeclKind → List ℕ → Context
@@ -94,11 +101,14 @@ IsHeadRight at before s = IsSpelled at (before ++ emptied s ∷ [])
 abbrev pub context_of : TypeDecl → Context
 context_of d = OfBody (out-TypeDecl d).kind (out-TypeDecl d).name
 
--- the first bad segment, by the order of the text: where its head is right, and its class body alone isn't spelled, the
--- first bad one of that body
+-- the first bad segment, by the order of the text: where its head is right, and its class body
+-- alone isn't spelled, the first bad one of that body
 pub data IsBadSegment : Context → List Segment → Segment → Type 0 where
-  here : (at : Context) (segments before : List Segment) (s : Segment) → IsFirstBad at segments before s
-      → ((body : List Segment) → HasBody s body → IsHeadRight at before s → ⊥) → IsBadSegment at segments s
+  here : (at : Context) (segments before : List Segment) (s : Segment)
+      → IsFirstBad at segments before s
+      → ((body : List Segment) → HasBody s body → IsHeadRight at before s → ⊥)
+      → IsBadSegment at segments s
   inside : (at : Context) (segments before body : List Segment) (s bad : Segment) (d : TypeDecl)
-      → IsFirstBad at segments before s → HasBody s body → IsHeadRight at before s → HeadSpells (out-TypeDecl d) (head_marks s)
+      → IsFirstBad at segments before s → HasBody s body → IsHeadRight at before s
+      → HeadSpells (out-TypeDecl d) (head_marks s)
       → IsBadSegment (context_of d) body bad → IsBadSegment at segments bad

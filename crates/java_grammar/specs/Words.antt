@@ -45,7 +45,8 @@ Row line (x ∷ xs) = line x ⨾ Row line xs
 abbrev pub Separated : {X : Type 0} → Line → (X → Line) → List X → Line
 Separated between line [] text = ⊥
 Separated between line (x ∷ []) text = line x text
-Separated between line (x ∷ y ∷ xs) text = (line x ⨾ (between ⨾ Separated between line (y ∷ xs))) text
+Separated between line (x ∷ y ∷ xs) text =
+    (line x ⨾ (between ⨾ Separated between line (y ∷ xs))) text
 
 -- a token of this part
 pub record Is (wanted : Part) (text : List Mark) : Type 0 where

@@ -1,12 +1,16 @@
 //! Groups in brackets, names and annotations, passed unread.
-ghost use Rattle.std.specs.Prelude.{◌≡◌, ◌≤◌, length, IfSome};
+ghost use Rattle.std.specs.Prelude.{◌≡◌, ◌≤◌, ◌<◌, ◌+◌, ◌^◌, length, IfSome};
 ghost use Rattle.java_grammar.specs.Parts.{parts};
-ghost use Rattle.java_grammar.specs.Extents.{partner_from, group_from, is_further_word, name_from, elements_from, name_and_elements_from, annotation_from};
+ghost use Rattle.java_grammar.specs.Extents.{partner_from, group_from, is_further_word};
+ghost use Rattle.java_grammar.specs.Extents.{name_from, elements_from, name_and_elements_from};
+ghost use Rattle.java_grammar.specs.Extents.{annotation_from, before, annotation_at};
+ghost use Rattle.java_grammar.specs.Extents.{annotations_from};
 
 use crate::part::Part;
 use java_token::Token;
 
-/// How many tokens stand up to the partner of the bracket that stands before these, the partner counted.
+/// How many tokens stand up to the partner of the bracket that stands before these, the partner
+/// counted.
 pub fn partner(tokens: &[Token]) -> Option<usize>
     ensures counted { result ≡ partner_from 0 (parts tokens.now) }
     ensures within { IfSome result (λ count. count ≤ length tokens.now) }
@@ -92,4 +96,40 @@ pub fn annotation_length(tokens: &[Token]) -> usize
         [first, behind @ ..] if Part::of(first).is_word() => 1 + name_and_elements_length(behind),
         _ => 0,
     }
+}
+
+/// So many more before something, where that is there.
+pub fn before(count: usize, more: usize) -> usize
+    requires { count + more < 2 ^ 64 }
+    ensures { result ≡ before count more }
+{
+    if more == 0 { 0 } else { count + more }
+}
+
+/// How many tokens the annotation at the front has; 0 where there is none.
+#[tactic(auto, unfolding(crate::specs::Extents::annotation_at))]
+fn whole_annotation_length(tokens: &[Token]) -> usize
+    ensures counted { result ≡ annotation_at (parts tokens.now) }
+    ensures within { result ≤ length tokens.now }
+{
+    match tokens {
+        [first, behind @ ..] if Part::of(first).is_at() => before(1, annotation_length(behind)),
+        _ => 0,
+    }
+}
+
+/// How many tokens the annotations at the front have.
+pub fn annotations_length(tokens: &[Token]) -> usize
+    ensures counted { result ≡ annotations_from (parts tokens.now) }
+    ensures within { result ≤ length tokens.now }
+{
+    let mut at: usize = 0;
+    while at < tokens.len() {
+        let more = whole_annotation_length(&tokens[at..]);
+        if more == 0 {
+            return at;
+        }
+        at += more;
+    }
+    at
 }

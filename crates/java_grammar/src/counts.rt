@@ -1,11 +1,20 @@
 //! The counts that bound how deep a declaration nests.
-ghost use Rattle.std.specs.Prelude.{◌≡◌, ◌≤◌, ◌<◌, ◌+◌, ◌^◌, ◌||◌, not, length, true, false};
-ghost use Rattle.java_grammar.specs.Tests.{is_group_start};
+ghost use Rattle.std.specs.Prelude.{◌≡◌, ◌≤◌, ◌<◌, ◌+◌, ◌^◌, ◌||◌, not, length, map, true, false};
 ghost use Rattle.std.specs.List.{list_all};
+ghost use Rattle.java_grammar.specs.Tests.{is_group_start};
 ghost use Rattle.java_grammar.specs.Parts.{part_of, parts};
-ghost use Rattle.java_grammar.specs.Counts.{angle_depth, angles_nest, bracket_depth, extent_behind, brackets_nest, is_call, calls_nothing, is_plain_part, is_plain, is_counted, counted, count_fits, extent_fits, extents_fit, begins_group, words_and_opening_from, name_and_opening_from, runs_fit, elements_inside, begins_default, elements_fit, head_fits, tokens_fit, expression_fits};
+ghost use Rattle.java_grammar.specs.Counts.{angle_depth, angles_nest, bracket_depth};
+ghost use Rattle.java_grammar.specs.Counts.{extent_behind, unread_behind, outside, bare};
+ghost use Rattle.java_grammar.specs.Counts.{brackets_nest, is_call, calls_nothing, is_plain_part};
+ghost use Rattle.java_grammar.specs.Counts.{is_plain, is_counted, count_of, is_short};
+ghost use Rattle.java_grammar.specs.Counts.{extent_fits, extents_fit, ends_run, takes_prefix};
+ghost use Rattle.java_grammar.specs.Counts.{values_fit, inside_group, group_behind_name};
+ghost use Rattle.java_grammar.specs.Counts.{elements_inside, elements_behind, annotations_fit};
+ghost use Rattle.java_grammar.specs.Counts.{begins_default, behind_default, default_fits};
+ghost use Rattle.java_grammar.specs.Counts.{head_fits, tokens_fit, expression_fits};
+ghost use Rattle.java_grammar.specs.Running.{counted_on, counted_in_run, begins_prefix};
 
-use crate::brackets::{annotation_length, name_length};
+use crate::brackets::{annotation_length, group_length, name_length};
 use crate::extent::extent_length;
 use crate::part::Part;
 use java_token::Token;
@@ -28,7 +37,7 @@ fn angle_depth(depth: usize, part: Part) -> usize
 }
 
 fn angles_nest(tokens: &[Token]) -> bool
-    ensures { result ≡ angles_nest 0 (parts tokens.now) }
+    ensures { result ≡ angles_nest (parts tokens.now) }
 {
     let mut angles: usize = 0;
     for at in 0..tokens.len() {
@@ -54,7 +63,7 @@ fn bracket_depth(depth: usize, part: Part) -> usize
     }
 }
 
-/// How many tokens of an extent stand behind a token of this part.
+/// How many tokens of an initialiser stand behind a token of this part.
 fn extent_behind(in_head: bool, depth: usize, part: Part, behind: &[Token]) -> usize
     ensures counted { result ≡ extent_behind in_head depth part (parts behind.now) }
     ensures within { result ≤ length behind.now }
@@ -66,8 +75,20 @@ fn extent_behind(in_head: bool, depth: usize, part: Part, behind: &[Token]) -> u
     }
 }
 
+/// How many tokens of an annotation or of an initialiser stand behind a token of this part.
+fn unread_behind(in_head: bool, depth: usize, part: Part, behind: &[Token]) -> usize
+    ensures counted { result ≡ unread_behind in_head depth part (parts behind.now) }
+    ensures within { result ≤ length behind.now }
+{
+    if part.is_at() {
+        annotation_length(behind)
+    } else {
+        extent_behind(in_head, depth, part, behind)
+    }
+}
+
 fn brackets_nest(in_head: bool, tokens: &[Token]) -> bool
-    ensures { result ≡ brackets_nest in_head 0 0 (parts tokens.now) }
+    ensures { result ≡ brackets_nest in_head (parts tokens.now) }
 {
     let mut depth: usize = 0;
     let mut at: usize = 0;
@@ -135,9 +156,10 @@ fn is_counted(may_prefix: bool, part: Part) -> bool
     part.is_group_start() || part.is_question() || (may_prefix && part.is_prefix())
 }
 
-fn counted(so_far: usize, may_prefix: bool, part: Part) -> usize
+fn counted_on(so_far: usize, may_prefix: bool, part: Part) -> usize
     requires { so_far < 2 ^ 63 }
-    ensures { result ≡ counted so_far may_prefix part }
+    ensures counted { result ≡ counted_on so_far may_prefix part }
+    ensures few { result ≤ so_far + 1 }
 {
     if is_counted(may_prefix, part) {
         so_far + 1
@@ -146,43 +168,42 @@ fn counted(so_far: usize, may_prefix: bool, part: Part) -> usize
     }
 }
 
-fn count_fits(tokens: &[Token]) -> bool
-    ensures { result ≡ count_fits 0 true (parts tokens.now) }
+/// How many `(`, `?` and prefix operators an expression of these tokens has.
+fn count_of(tokens: &[Token]) -> usize
+    ensures { result ≡ count_of (parts tokens.now) }
 {
     let mut so_far: usize = 0;
     let mut may_prefix = true;
     for at in 0..tokens.len() {
         let part = Part::of(&tokens[at]);
-        so_far = counted(so_far, may_prefix, part);
-        if so_far > MOST_COUNTED {
-            return false;
-        }
+        so_far = counted_on(so_far, may_prefix, part);
         may_prefix = part.takes_prefix();
     }
-    true
+    so_far
+}
+
+fn is_short(tokens: &[Token]) -> bool
+    ensures { result ≡ is_short (parts tokens.now) }
+{
+    count_of(tokens) <= MOST_COUNTED
 }
 
 fn extent_fits(tokens: &[Token]) -> bool
     ensures { result ≡ extent_fits (parts tokens.now) }
 {
-    !is_plain(tokens) || count_fits(tokens)
-}
-
-fn is_long(extent: &[Token]) -> bool
-    ensures { result ≡ not (extent_fits (parts extent.now)) }
-{
-    !extent_fits(extent)
+    !is_plain(tokens) || is_short(tokens)
 }
 
 fn extents_fit(tokens: &[Token]) -> bool
-    ensures { result ≡ extents_fit 0 0 (parts tokens.now) }
+    ensures { result ≡ extents_fit (parts tokens.now) }
 {
     let mut depth: usize = 0;
     let mut at: usize = 0;
     while at < tokens.len() {
         let part = Part::of(&tokens[at]);
         let extent = extent_behind(true, depth, part, &tokens[at + 1..]);
-        if is_long(&tokens[at + 1..at + 1 + extent]) {
+        let fits = extent_fits(&tokens[at + 1..at + 1 + extent]);
+        if !fits {
             return false;
         }
         depth = bracket_depth(depth, part);
@@ -191,86 +212,107 @@ fn extents_fit(tokens: &[Token]) -> bool
     true
 }
 
-/// 1 where these tokens begin with `(`, else 0.
-fn begins_group(tokens: &[Token]) -> usize
-    ensures counted { result ≡ begins_group (parts tokens.now) }
-    ensures within { result ≤ length tokens.now }
+fn counted_in_run(so_far: usize, may_prefix: bool, part: Part) -> usize
+    requires { so_far < 2 ^ 63 }
+    ensures counted { result ≡ counted_in_run so_far may_prefix part }
+    ensures few { result ≤ so_far + 1 }
 {
-    match tokens {
-        [first, ..] if Part::of(first).is_group_start() => 1,
-        _ => 0,
+    if part.ends_run() {
+        0
+    } else {
+        counted_on(so_far, may_prefix, part)
     }
 }
 
-fn further_words_and_opening(tokens: &[Token]) -> usize
-    ensures counted { result ≡ words_and_opening_from (parts tokens.now) }
-    ensures within { result ≤ length tokens.now }
+fn begins_prefix(part: Part) -> bool
+    ensures { result ≡ begins_prefix part }
 {
-    let name = name_length(tokens);
-    name + begins_group(&tokens[name..])
+    part.ends_run() || part.takes_prefix()
 }
 
-/// Behind a `@`: how many tokens the annotation's name has, with the `(` behind it.
-#[tactic(auto, unfolding(crate::specs::Counts::name_and_opening_from))]
-fn name_and_opening_length(tokens: &[Token]) -> usize
-    ensures counted { result ≡ name_and_opening_from (parts tokens.now) }
-    ensures within { result ≤ length tokens.now }
+/// The values of elements in these tokens are short, each as far as it is an expression.
+#[tactic(auto, unfolding(crate::specs::Counts::values_fit))]
+fn values_fit(in_head: bool, tokens: &[Token]) -> bool
+    ensures { result ≡ values_fit in_head (parts tokens.now) }
 {
-    match tokens {
-        [first, behind @ ..] if Part::of(first).is_word() => 1 + further_words_and_opening(behind),
-        _ => 0,
-    }
-}
-
-/// The values of elements in these tokens are short enough, each as far as it is an expression.
-fn runs_fit(tokens: &[Token]) -> bool
-    ensures { result ≡ runs_fit 0 true 0 (parts tokens.now) }
-{
+    let mut depth: usize = 0;
     let mut so_far: usize = 0;
     let mut may_prefix = true;
     let mut at: usize = 0;
     while at < tokens.len() {
         let part = Part::of(&tokens[at]);
-        at += 1;
-        if part.ends_run() {
-            so_far = 0;
-            may_prefix = true;
-        } else if part.is_at() {
-            so_far = 0;
-            may_prefix = true;
-            at += name_and_opening_length(&tokens[at..]);
-        } else {
-            so_far = counted(so_far, may_prefix, part);
-            if so_far > MOST_COUNTED {
-                return false;
-            }
-            may_prefix = part.takes_prefix();
+        let unread = unread_behind(in_head, depth, part, &tokens[at + 1..]);
+        so_far = counted_in_run(so_far, may_prefix, part);
+        if so_far > MOST_COUNTED {
+            return false;
         }
+        may_prefix = begins_prefix(part);
+        depth = bracket_depth(depth, part);
+        at += 1 + unread;
     }
     true
 }
 
-fn is_annotation_long(behind: &[Token]) -> bool
-    ensures { result ≡ not (runs_fit 0 true 0 (elements_inside (parts behind.now))) }
+/// What stands inside the group at the front.
+fn inside_group(tokens: &[Token]) -> &[Token]
+    ensures { parts result.now ≡ inside_group (parts tokens.now) }
 {
-    !annotation_fits(behind)
-}
-
-/// The values of the elements of the annotation behind whose `@` these tokens stand are short enough.
-fn annotation_fits(behind: &[Token]) -> bool
-    ensures { result ≡ runs_fit 0 true 0 (elements_inside (parts behind.now)) }
-{
-    let name = name_and_opening_length(behind);
-    let whole = annotation_length(behind);
-    if whole > name {
-        runs_fit(&behind[name..whole - 1])
-    } else {
-        true
+    match tokens {
+        [first, behind @ ..] if Part::of(first).is_group_start() => {
+            &behind[..group_length(behind).saturating_sub(1)]
+        }
+        _ => &tokens[..0],
     }
 }
 
-fn begins_default(part: Part, depth: usize, behind_group: bool) -> bool
-    ensures { result ≡ begins_default part depth behind_group }
+/// What stands in the group behind a name, behind the name's first word.
+fn group_behind_name(tokens: &[Token]) -> &[Token]
+    ensures { parts result.now ≡ group_behind_name (parts tokens.now) }
+{
+    inside_group(&tokens[name_length(tokens)..])
+}
+
+/// What stands in the group of the elements of the annotation behind whose `@` these tokens stand.
+fn elements_inside(behind: &[Token]) -> &[Token]
+    ensures { parts result.now ≡ elements_inside (parts behind.now) }
+{
+    match behind {
+        [first, more @ ..] if Part::of(first).is_word() => group_behind_name(more),
+        _ => &behind[..0],
+    }
+}
+
+/// The values of the elements of an annotation that begins with a token of this part are short.
+fn annotation_fits(part: Part, behind: &[Token]) -> bool
+    ensures { result ≡ values_fit false (elements_behind part (parts behind.now)) }
+{
+    if part.is_at() {
+        values_fit(false, elements_inside(behind))
+    } else {
+        values_fit(false, &behind[..0])
+    }
+}
+
+fn annotations_fit(in_head: bool, tokens: &[Token]) -> bool
+    ensures { result ≡ annotations_fit in_head (parts tokens.now) }
+{
+    let mut depth: usize = 0;
+    let mut at: usize = 0;
+    while at < tokens.len() {
+        let part = Part::of(&tokens[at]);
+        let extent = extent_behind(in_head, depth, part, &tokens[at + 1..]);
+        let fits = annotation_fits(part, &tokens[at + 1..]);
+        if !fits {
+            return false;
+        }
+        depth = bracket_depth(depth, part);
+        at += 1 + extent;
+    }
+    true
+}
+
+fn begins_default(depth: usize, part: Part, behind_group: bool) -> bool
+    ensures { result ≡ begins_default depth part behind_group }
 {
     part.is_default() && depth == 0 && behind_group
 }
@@ -281,34 +323,36 @@ fn has_group(behind_group: bool, part: Part) -> bool
     behind_group || part.is_group_start()
 }
 
-fn elements_fit(in_head: bool, tokens: &[Token]) -> bool
-    ensures { result ≡ elements_fit in_head 0 false 0 (parts tokens.now) }
+/// What stands behind the `default` of a method.
+fn behind_default(in_head: bool, tokens: &[Token]) -> &[Token]
+    ensures { parts result.now ≡ behind_default false (bare in_head (parts tokens.now)) }
 {
     let mut depth: usize = 0;
     let mut behind_group = false;
     let mut at: usize = 0;
     while at < tokens.len() {
         let part = Part::of(&tokens[at]);
-        let behind = &tokens[at + 1..];
-        if part.is_at() {
-            if is_annotation_long(behind) {
-                return false;
-            }
-            at += 1 + annotation_length(behind);
-        } else if begins_default(part, depth, behind_group) {
-            return runs_fit(behind);
-        } else {
-            let extent = extent_behind(in_head, depth, part, behind);
-            depth = bracket_depth(depth, part);
-            behind_group = has_group(behind_group, part);
-            at += 1 + extent;
+        if begins_default(depth, part, behind_group) {
+            return &tokens[at + 1..];
         }
+        let unread = unread_behind(in_head, depth, part, &tokens[at + 1..]);
+        depth = bracket_depth(depth, part);
+        behind_group = has_group(behind_group, part);
+        at += 1 + unread;
     }
-    true
+    &tokens[..0]
 }
 
-/// The head of a segment passes none of the counts: at most 64 brackets and 64 angles are open at a place, and at most
-/// 256 of `(`, `?` and prefix operators stand in an initialiser or in a value of an element that may be constant.
+/// The value behind the `default` of a method is short.
+fn default_fits(in_head: bool, tokens: &[Token]) -> bool
+    ensures { result ≡ default_fits in_head (parts tokens.now) }
+{
+    values_fit(in_head, behind_default(in_head, tokens))
+}
+
+/// The head of a segment passes none of the counts: at most 64 brackets and 64 angles are open at
+/// a place, and at most 256 of `(`, `?` and prefix operators stand in an initialiser or in a
+/// value of an element that may be constant.
 #[tactic(auto, unfolding(crate::specs::Counts::head_fits))]
 pub fn head_fits(tokens: &[Token]) -> bool
     ensures { result ≡ head_fits (parts tokens.now) }
@@ -316,7 +360,8 @@ pub fn head_fits(tokens: &[Token]) -> bool
     angles_nest(tokens)
         && brackets_nest(true, tokens)
         && extents_fit(tokens)
-        && elements_fit(true, tokens)
+        && annotations_fit(true, tokens)
+        && default_fits(true, tokens)
 }
 
 /// Tokens that are to be read as a type or as an annotation pass none of the counts.
@@ -324,13 +369,17 @@ pub fn head_fits(tokens: &[Token]) -> bool
 pub fn tokens_fit(tokens: &[Token]) -> bool
     ensures { result ≡ tokens_fit (parts tokens.now) }
 {
-    angles_nest(tokens) && brackets_nest(false, tokens) && elements_fit(false, tokens)
+    angles_nest(tokens)
+        && brackets_nest(false, tokens)
+        && annotations_fit(false, tokens)
+        && default_fits(false, tokens)
 }
 
-/// Tokens that are to be read as an expression pass none of the counts: they count as one initialiser.
+/// Tokens that are to be read as an expression pass none of the counts: they count as one
+/// initialiser.
 #[tactic(auto, unfolding(crate::specs::Counts::expression_fits))]
 pub fn expression_fits(tokens: &[Token]) -> bool
     ensures { result ≡ expression_fits (parts tokens.now) }
 {
-    angles_nest(tokens) && count_fits(tokens)
+    angles_nest(tokens) && is_short(tokens)
 }

@@ -1,160 +1,129 @@
 //! The extent of an initialiser (JLS 8.3.2).
 ghost use Rattle.std.specs.Prelude.{◌≡◌, ◌≤◌, ◌<◌, ◌^◌, length};
 ghost use Rattle.java_grammar.specs.Parts.{parts};
-ghost use Rattle.java_grammar.specs.Extents.{annotated_place, is_before_arguments, is_behind_name, is_anywhere, is_behind, behind_arguments, annotated_step, word_step, extent_step, extent_from, extent_of, type_arguments_from, reference_from};
+ghost use Rattle.java_grammar.specs.Extents.{final_at, modifiers_from, pattern_modifiers_from};
+ghost use Rattle.java_grammar.specs.Extents.{typed_from, behind_from, pattern_from};
+ghost use Rattle.java_grammar.specs.Extents.{begins_with_double_colon, referred_from, piece_at};
+ghost use Rattle.java_grammar.specs.Extents.{extent_of};
 
-use crate::brackets::{annotation_length, group_length};
+use crate::brackets::{annotation_length, annotations_length, group_length};
 use crate::part::Part;
-use crate::reference::reference_length;
-use crate::type_arguments::{Angled, type_arguments};
+use crate::type_arguments::{Angled, arguments};
+use crate::types::{annotated_type_length, type_length};
 use java_token::Token;
 
-/// A place in an initialiser: what of a type may stand there.
-#[derive(Clone, Copy)]
-pub enum ExtentPlace {
-    /// Nothing; a word may begin a type before `::`.
-    Anywhere,
-    /// Behind `new`, `.`, `::` or `instanceof`: `final`, annotations, type arguments, a type.
-    Behind,
-    /// Annotations, type arguments, a type.
-    BeforeArguments,
-    /// Annotations, a type.
-    BeforeType,
-    /// Behind a word of a type: its type arguments.
-    BehindName,
-}
-
-/// What is passed together with a token.
-#[derive(Clone, Copy)]
-pub struct ExtentStep {
-    /// The place behind what is passed.
-    pub next: ExtentPlace,
-    /// How many tokens behind the one at hand are passed with it.
-    pub more: usize,
-}
-
-impl ExtentPlace {
-    fn annotated(self) -> ExtentPlace
-        ensures { result ≡ annotated_place self }
-    {
-        match self {
-            ExtentPlace::Behind | ExtentPlace::BeforeArguments => ExtentPlace::BeforeArguments,
-            ExtentPlace::BeforeType => ExtentPlace::BeforeType,
-            _ => ExtentPlace::Anywhere,
-        }
-    }
-
-    fn is_before_arguments(self) -> bool
-        ensures { result ≡ is_before_arguments self }
-    {
-        matches!(&self, ExtentPlace::Behind | ExtentPlace::BeforeArguments)
-    }
-
-    fn is_behind_name(self) -> bool
-        ensures { result ≡ is_behind_name self }
-    {
-        matches!(&self, ExtentPlace::BehindName)
-    }
-
-    fn is_anywhere(self) -> bool
-        ensures { result ≡ is_anywhere self }
-    {
-        matches!(&self, ExtentPlace::Anywhere)
-    }
-
-    fn is_behind(self) -> bool
-        ensures { result ≡ is_behind self }
-    {
-        matches!(&self, ExtentPlace::Behind)
-    }
-}
-
-fn behind_arguments(arguments: Option<Angled>, next: ExtentPlace) -> ExtentStep
-    ensures { result ≡ behind_arguments arguments next }
+/// Type arguments, annotations and a type, each if it is there.
+#[tactic(auto, unfolding(crate::specs::Extents::typed_from))]
+fn typed_length(tokens: &[Token]) -> usize
+    ensures counted { result ≡ typed_from (parts tokens.now) }
+    ensures within { result ≤ length tokens.now }
 {
-    match arguments {
-        None => ExtentStep {
-            next: ExtentPlace::Anywhere,
-            more: 0,
-        },
+    match arguments(tokens) {
+        None => annotated_type_length(tokens),
         Some(Angled { count, left }) => {
-            let next = if left == 0 {
-                next
+            if left == 0 {
+                count + annotated_type_length(&tokens[count..])
             } else {
-                ExtentPlace::Anywhere
-            };
-            ExtentStep { next, more: count }
+                count
+            }
         }
     }
 }
 
-/// Behind a `@`.
-fn annotated_step(place: ExtentPlace, more: usize) -> ExtentStep
-    ensures { result ≡ annotated_step place more }
+fn final_length(tokens: &[Token]) -> usize
+    ensures counted { result ≡ final_at (parts tokens.now) }
+    ensures within { result ≤ length tokens.now }
 {
-    if more > 0 {
-        ExtentStep {
-            next: place.annotated(),
-            more,
-        }
+    match tokens {
+        [first, ..] if Part::of(first).is_final() => 1,
+        _ => 0,
+    }
+}
+
+fn modifiers_length(tokens: &[Token]) -> usize
+    ensures counted { result ≡ modifiers_from (parts tokens.now) }
+    ensures within { result ≤ length tokens.now }
+{
+    let first = final_length(tokens);
+    first + annotations_length(&tokens[first..])
+}
+
+/// The modifiers of a pattern, in any order (JLS 14.30.1).
+fn pattern_modifiers_length(tokens: &[Token]) -> usize
+    ensures counted { result ≡ pattern_modifiers_from (parts tokens.now) }
+    ensures within { result ≤ length tokens.now }
+{
+    let annotations = annotations_length(tokens);
+    annotations + modifiers_length(&tokens[annotations..])
+}
+
+/// What is passed behind `new`, `.` and `::`.
+#[tactic(auto, unfolding(crate::specs::Extents::behind_from))]
+fn behind_length(tokens: &[Token]) -> usize
+    ensures counted { result ≡ behind_from (parts tokens.now) }
+    ensures within { result ≤ length tokens.now }
+{
+    let modifiers = modifiers_length(tokens);
+    modifiers + typed_length(&tokens[modifiers..])
+}
+
+/// What is passed behind `instanceof`.
+#[tactic(auto, unfolding(crate::specs::Extents::pattern_from))]
+fn pattern_length(tokens: &[Token]) -> usize
+    ensures counted { result ≡ pattern_from (parts tokens.now) }
+    ensures within { result ≤ length tokens.now }
+{
+    let modifiers = pattern_modifiers_length(tokens);
+    modifiers + typed_length(&tokens[modifiers..])
+}
+
+fn begins_with_double_colon(tokens: &[Token]) -> bool
+    ensures { result ≡ begins_with_double_colon (parts tokens.now) }
+{
+    match tokens {
+        [first, ..] => Part::of(first).is_double_colon(),
+        _ => false,
+    }
+}
+
+/// A type before `::` (JLS 15.13), else one token.
+fn referred_length(tokens: &[Token]) -> usize
+    requires { 0 < length tokens.now }
+    ensures counted { result ≡ referred_from (parts tokens.now) }
+    ensures within { result ≤ length tokens.now }
+{
+    let whole = type_length(tokens);
+    if begins_with_double_colon(&tokens[whole..]) {
+        whole
     } else {
-        ExtentStep {
-            next: ExtentPlace::Anywhere,
-            more: 0,
-        }
+        1
     }
 }
 
-/// Behind a word.
-fn word_step(place: ExtentPlace, behind: &[Token]) -> ExtentStep
-    ensures step { result ≡ word_step place (parts behind.now) }
-    ensures within { result.more ≤ length behind.now }
+/// How many tokens are passed together with the first one; none where that is a comma.
+#[tactic(auto, unfolding(crate::specs::Extents::piece_at))]
+fn piece_length(tokens: &[Token]) -> usize
+    ensures counted { result ≡ piece_at (parts tokens.now) }
+    ensures within { result ≤ length tokens.now }
 {
-    if place.is_anywhere() {
-        ExtentStep {
-            next: ExtentPlace::Anywhere,
-            more: reference_length(behind),
-        }
-    } else {
-        ExtentStep {
-            next: ExtentPlace::BehindName,
-            more: 0,
-        }
-    }
-}
-
-fn single(next: ExtentPlace) -> ExtentStep
-    ensures next { result.next ≡ next }
-    ensures alone { result.more ≡ 0 }
-{
-    ExtentStep { next, more: 0 }
-}
-
-/// What is passed together with a token of this part, before these tokens.
-#[tactic(auto, unfolding(crate::specs::Extents::extent_step))]
-fn extent_step(place: ExtentPlace, part: Part, behind: &[Token]) -> ExtentStep
-    ensures step { result ≡ extent_step place part (parts behind.now) }
-    ensures within { result.more ≤ length behind.now }
-{
-    if part.is_opening() {
-        ExtentStep {
-            next: ExtentPlace::Anywhere,
-            more: group_length(behind),
-        }
+    let [first, behind @ ..] = tokens else {
+        return 0;
+    };
+    let part = Part::of(first);
+    if part.is_comma() {
+        0
+    } else if part.is_opening() {
+        1 + group_length(behind)
     } else if part.is_at() {
-        annotated_step(place, annotation_length(behind))
-    } else if part.is_less() && place.is_before_arguments() {
-        behind_arguments(type_arguments(behind), ExtentPlace::BeforeType)
-    } else if part.is_less() && place.is_behind_name() {
-        behind_arguments(type_arguments(behind), ExtentPlace::Anywhere)
-    } else if part.is_word() {
-        word_step(place, behind)
+        1 + annotation_length(behind)
+    } else if part.is_instanceof() {
+        1 + pattern_length(behind)
     } else if part.begins_type_behind() {
-        single(ExtentPlace::Behind)
-    } else if part.is_final() && place.is_behind() {
-        single(ExtentPlace::BeforeArguments)
+        1 + behind_length(behind)
+    } else if part.is_word() {
+        referred_length(tokens)
     } else {
-        single(ExtentPlace::Anywhere)
+        1
     }
 }
 
@@ -163,22 +132,19 @@ pub fn extent_length(tokens: &[Token]) -> usize
     ensures counted { result ≡ extent_of (parts tokens.now) }
     ensures within { result ≤ length tokens.now }
 {
-    let mut place = ExtentPlace::Anywhere;
     let mut at: usize = 0;
     while at < tokens.len() {
-        let part = Part::of(&tokens[at]);
-        if part.is_comma() {
+        let more = piece_length(&tokens[at..]);
+        if more == 0 {
             return at;
         }
-        let step = extent_step(place, part, &tokens[at + 1..]);
-        place = step.next;
-        at += 1 + step.more;
+        at += more;
     }
     at
 }
 
-/// How many tokens the initialiser at the front has (JLS 8.3.2). The tokens are those behind its `=`, any at all.
-/// It takes no memory.
+/// How many tokens the initialiser at the front has (JLS 8.3.2). The tokens are those behind its
+/// `=`, any at all. It takes no memory.
 pub fn initialiser_extent(tokens: &[Token]) -> u32
     requires { length tokens.now < 2 ^ 32 }
     ensures { result ≡ extent_of (parts tokens.now) }

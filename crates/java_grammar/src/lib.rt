@@ -1,16 +1,20 @@
-//! The grammar of Java declarations: what a token is to it, the extents of initialisers, the counts that
-//! bound nesting, and in `specs/` which tokens and segments spell which trees.
+//! The grammar of Java declarations: what a token is to it, the extents of initialisers, the
+//! counts that bound nesting, and in `specs/` which tokens and segments spell which trees.
 #![tactic(auto)]
 
 mod brackets;
 mod counts;
 mod extent;
+mod laws;
 mod part;
 mod part_of;
-mod reference;
+mod reader;
 mod tests;
 mod type_arguments;
+mod types;
 
 pub use counts::{MOST_COUNTED, MOST_NESTED, expression_fits, head_fits, is_plain, tokens_fit};
 pub use extent::initialiser_extent;
+pub use laws::fronts_are_spelled;
 pub use part::{ModifierWord, Pair, Part};
+pub use reader::Reader;

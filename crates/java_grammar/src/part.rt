@@ -2,11 +2,14 @@ use java_ast::{BinOp, Primitive, UnOp};
 
 /// What a token is to the grammar of declarations: each token is one of these.
 ///
-/// Contextual keywords are words. `+` and `-` are binary operators, which may stand as unary ones too;
-/// `<`, `>`, `>>` and `>>>` are binary operators, which may stand as angles too.
+/// Contextual keywords are words, of which `sealed` alone is a part of its own. `+` and `-` are
+/// binary operators, which may stand as unary ones too; `<`, `>`, `>>` and `>>>` are binary
+/// operators, which may stand as angles too.
 #[derive(Clone, Copy, PartialEq, Eq)]
 pub enum Part {
     Word,
+    /// The word `sealed`, which begins a type only before a further word (JLS 3.9).
+    Sealed,
     /// A literal, `true`, `false` and `null` among them.
     Literal,
     Primitive(Primitive),
@@ -17,6 +20,9 @@ pub enum Part {
     Binary(BinOp),
     /// A unary operator that is no binary one: `!` or `~`.
     Unary(UnOp),
+    /// An operator that stands in no constant expression (JLS 15.29): `->`, `++`, `--` or a
+    /// compound assignment.
+    OtherOperator,
     Question,
     Colon,
     DoubleColon,
@@ -38,7 +44,7 @@ pub enum Part {
     This,
     New,
     Instanceof,
-    /// Every other token.
+    /// Every other keyword.
     Other,
 }
 

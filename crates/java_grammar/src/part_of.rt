@@ -1,5 +1,5 @@
 ghost use Rattle.std.specs.Prelude.{◌≡◌};
-ghost use Rattle.java_grammar.specs.Parts.{part_of, keyword_part, operator_part};
+ghost use Rattle.java_grammar.specs.Parts.{part_of, keyword_part, operator_part, word_part};
 
 use crate::part::{ModifierWord, Pair, Part};
 use java_ast::{BinOp, Primitive, UnOp};
@@ -11,11 +11,21 @@ impl Part {
         ensures { result ≡ part_of token.now }
     {
         match &token.kind {
-            TokenKind::Word(_) => Part::Word,
+            TokenKind::Word(name) => part_of_word(name.bytes()),
             TokenKind::Keyword(keyword) => part_of_keyword(*keyword),
             TokenKind::Lit(_) => Part::Literal,
             TokenKind::Op(operator) => part_of_operator(*operator),
         }
+    }
+}
+
+fn part_of_word(name: &[u8]) -> Part
+    ensures { result ≡ word_part name.now }
+{
+    if name == b"sealed".as_slice() {
+        Part::Sealed
+    } else {
+        Part::Word
     }
 }
 
@@ -101,6 +111,6 @@ fn part_of_operator(operator: OpTok) -> Part
         OpTok::Or => Part::Binary(BinOp::Or),
         OpTok::AndAnd => Part::Binary(BinOp::AndAnd),
         OpTok::OrOr => Part::Binary(BinOp::OrOr),
-        _ => Part::Other,
+        _ => Part::OtherOperator,
     }
 }

@@ -1,6 +1,12 @@
 ghost use Rattle.std.specs.Prelude.{◌≡◌};
-ghost use Rattle.java_grammar.specs.Tests.{is_opening, is_closing, is_group_start, is_bracket_start, is_bracket_end, is_dot, is_word, is_at, is_final, is_comma, is_less, is_double_colon, begins_type_behind, is_in_type_arguments, angles};
-ghost use Rattle.java_grammar.specs.Counts.{is_assign, is_default, is_plain_part, is_prefix, is_question, takes_prefix, ends_run};
+ghost use Rattle.java_grammar.specs.Tests.{is_opening, is_closing, is_group_start};
+ghost use Rattle.java_grammar.specs.Tests.{is_bracket_start, is_bracket_end, is_dot, is_word};
+ghost use Rattle.java_grammar.specs.Tests.{is_sealed, is_primitive, is_instanceof, is_at};
+ghost use Rattle.java_grammar.specs.Tests.{is_final, is_comma, is_less, is_double_colon};
+ghost use Rattle.java_grammar.specs.Tests.{begins_type_behind, is_in_type_arguments, angles};
+ghost use Rattle.java_grammar.specs.Reading.{binary_of};
+ghost use Rattle.java_grammar.specs.Counts.{is_assign, is_default, is_plain_part, is_prefix};
+ghost use Rattle.java_grammar.specs.Counts.{is_question, takes_prefix, ends_run};
 
 use crate::part::{ModifierWord, Pair, Part};
 use java_ast::BinOp;
@@ -42,7 +48,20 @@ impl Part {
     pub fn is_word(self) -> bool
         ensures { result ≡ is_word self }
     {
-        matches!(&self, Part::Word)
+        matches!(&self, Part::Word | Part::Sealed)
+    }
+
+    /// The word `sealed`.
+    pub fn is_sealed(self) -> bool
+        ensures { result ≡ is_sealed self }
+    {
+        matches!(&self, Part::Sealed)
+    }
+
+    pub fn is_primitive(self) -> bool
+        ensures { result ≡ is_primitive self }
+    {
+        matches!(&self, Part::Primitive(_))
     }
 
     pub fn is_dot(self) -> bool
@@ -94,32 +113,45 @@ impl Part {
         }
     }
 
-    /// Behind it a type may stand in an expression (JLS 15.9, 15.10.1, 15.12, 15.13, 15.20.2).
+    pub fn is_instanceof(self) -> bool
+        ensures { result ≡ is_instanceof self }
+    {
+        matches!(&self, Part::Instanceof)
+    }
+
+    /// Behind it, too, a type may stand in an expression (JLS 15.9, 15.10.1, 15.11, 15.12, 15.13).
     pub fn begins_type_behind(self) -> bool
         ensures { result ≡ begins_type_behind self }
     {
-        matches!(
-            &self,
-            Part::New | Part::Dot | Part::DoubleColon | Part::Instanceof
-        )
+        matches!(&self, Part::New | Part::Dot | Part::DoubleColon)
     }
 
-    /// It may stand in type arguments (JLS 4.5.1), where angles and annotations may stand too.
+    /// It may stand in type arguments (JLS 4.5.1), where angles, annotations and dimensions may
+    /// stand too.
     pub fn is_in_type_arguments(self) -> bool
         ensures { result ≡ is_in_type_arguments self }
     {
         matches!(
             &self,
             Part::Word
+                | Part::Sealed
                 | Part::Primitive(_)
                 | Part::Dot
                 | Part::Comma
                 | Part::Question
-                | Part::Opening(Pair::Brackets)
-                | Part::Closing(Pair::Brackets)
                 | Part::Extends
                 | Part::Super
         )
+    }
+
+    /// The binary operator that it is.
+    pub fn binary(self) -> Option<BinOp>
+        ensures { result ≡ binary_of self }
+    {
+        match self {
+            Part::Binary(operator) => Some(operator),
+            _ => None,
+        }
     }
 
     /// `=`
@@ -143,6 +175,7 @@ impl Part {
             &self,
             Part::Literal
                 | Part::Word
+                | Part::Sealed
                 | Part::Primitive(_)
                 | Part::Dot
                 | Part::Question
@@ -170,7 +203,7 @@ impl Part {
         matches!(&self, Part::Question)
     }
 
-    /// Behind it `+` and `-` are prefix operators.
+    /// It is an operator (JLS 3.12) or `(`: behind it `+` and `-` are prefix operators.
     pub fn takes_prefix(self) -> bool
         ensures { result ≡ takes_prefix self }
     {
@@ -178,19 +211,25 @@ impl Part {
             &self,
             Part::Binary(_)
                 | Part::Unary(_)
+                | Part::Assign
+                | Part::OtherOperator
                 | Part::Opening(Pair::Parentheses)
                 | Part::Question
                 | Part::Colon
         )
     }
 
-    /// A value of an element ends before it, if it is an expression (JLS 9.7.1).
+    /// A value of an element that is an expression ends before it (JLS 9.7.1).
     pub fn ends_run(self) -> bool
         ensures { result ≡ ends_run self }
     {
         matches!(
             &self,
-            Part::Opening(Pair::Braces) | Part::Closing(Pair::Braces) | Part::Comma | Part::Assign
+            Part::Opening(Pair::Braces)
+                | Part::Closing(Pair::Braces)
+                | Part::Comma
+                | Part::Assign
+                | Part::At
         )
     }
 }

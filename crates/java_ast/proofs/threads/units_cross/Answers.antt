@@ -6,7 +6,9 @@ use Rattle.java_ast.proofs.Crossing.{declaration_send, declaration_sync}
 use Rattle.java_ast.proofs.threads.units_cross.Goals as goal
 
 pub crosses_threads-requires-send-T : goal.crosses_threads-requires-send-T
-crosses_threads-requires-send-T c κs = search (declaration_send, list_send, text_send, sendable, crosses) depth 40
+crosses_threads-requires-send-T c κs =
+    search (declaration_send, list_send, text_send, sendable, crosses) depth 40
 
 pub crosses_threads-requires-sync-T : goal.crosses_threads-requires-sync-T
-crosses_threads-requires-sync-T c κs = search (declaration_sync, list_sync, text_sync, sendable, crosses) depth 40
+crosses_threads-requires-sync-T c κs =
+    search (declaration_sync, list_sync, text_sync, sendable, crosses) depth 40

@@ -9,4 +9,5 @@ loop-at-preserved c =
 
 pub returns-clause-counted : goal.returns-clause-counted
 returns-clause-counted c =
-    let h = c.loop-at.invariant in name_end _ _ _ h.within c.is_further_word.ensures c.loop-at-test.false h.counted
+    let h = c.loop-at.invariant in name_end _ _ _ h.within c.is_further_word.ensures
+    c.loop-at-test.false h.counted

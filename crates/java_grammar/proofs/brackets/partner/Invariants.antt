@@ -6,6 +6,7 @@ use Rattle.java_grammar.proofs.brackets.partner.Given as goal
 
 abbrev pub invariant-loop-at : goal.invariant-loop-at
 invariant-loop-at l = record {
-  counted : partner_from 0 (parts l.tokens) ≡ later l.at (partner_from l.inside (parts (drop l.at l.tokens)));
+  counted : partner_from 0 (parts l.tokens)
+      ≡ later l.at (partner_from l.inside (parts (drop l.at l.tokens)));
   few : l.inside ≤ l.at;
 }

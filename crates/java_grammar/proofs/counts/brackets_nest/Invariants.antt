@@ -1,11 +1,15 @@
-use Rattle.std.proofs.Common.{◌≡◌, ◌≤◌, ◌+◌, ◌-◌, length, drop, true, false}
+use Rattle.std.proofs.Common.{◌≡◌, ◌≤◌, ◌-◌, length, drop}
 use Rattle.java_grammar.specs.Parts.{parts}
-use Rattle.java_grammar.specs.Counts.{brackets_nest}
+use Rattle.std.specs.List.{list_all}
+use Rattle.java_grammar.specs.Counts.{is_nested, bracket_depth, places, extent_behind}
 use Rattle.java_grammar.proofs.counts.brackets_nest.Given as goal
 
 abbrev pub invariant-loop-at : goal.invariant-loop-at
 invariant-loop-at l = record {
-  same : brackets_nest l.in_head 0 0 (parts l.tokens) ≡ brackets_nest l.in_head l.depth 0 (parts (drop l.at l.tokens));
+  same : list_all (λ at. is_nested (bracket_depth at.depth at.part))
+      (places (extent_behind l.in_head) 0 0 (parts l.tokens))
+      ≡ list_all (λ at. is_nested (bracket_depth at.depth at.part))
+      (places (extent_behind l.in_head) l.depth 0 (parts (drop l.at l.tokens)));
   within : l.at ≤ length l.tokens;
   few : l.depth ≤ 64;
 }

@@ -1,11 +1,16 @@
-use Rattle.std.proofs.Common.{◌≡◌, ◌≤◌, ◌+◌, ◌-◌, length, drop, true, false}
+use Rattle.std.proofs.Common.{◌≡◌, ◌≤◌, ◌-◌, length, drop, true}
 use Rattle.java_grammar.specs.Parts.{parts}
-use Rattle.java_grammar.specs.Counts.{extents_fit}
+use Rattle.std.specs.List.{list_all}
+use Rattle.std.proofs.Common.{take}
+use Rattle.java_grammar.specs.Counts.{places, extent_behind, extent_fits}
 use Rattle.java_grammar.proofs.counts.extents_fit.Given as goal
 
 abbrev pub invariant-loop-at : goal.invariant-loop-at
 invariant-loop-at l = record {
-  same : extents_fit 0 0 (parts l.tokens) ≡ extents_fit l.depth 0 (parts (drop l.at l.tokens));
+  same : list_all (λ at. extent_fits (take at.unread at.behind))
+      (places (extent_behind true) 0 0 (parts l.tokens))
+      ≡ list_all (λ at. extent_fits (take at.unread at.behind))
+      (places (extent_behind true) l.depth 0 (parts (drop l.at l.tokens)));
   within : l.at ≤ length l.tokens;
   few : l.depth ≤ l.at;
 }
