@@ -1,0 +1,2 @@
+mod Congruent
+mod Wrapping

@@ -1,0 +1,13 @@
+use Rattle.std.proofs.Common.{rules, ap, Some, lit<, FitsSigned}
+use Rattle.std.specs.Int.{w64}
+use Rattle.std.specs.Int.{w64 as long}
+use Rattle.const_values.proofs.Wrapping.{shifted}
+use Rattle.const_values.proofs.longs.shift.Goals as goal
+
+pub returns-in-ShiftLeft : goal.returns-in-ShiftLeft
+returns-in-ShiftLeft c =
+    let fits : FitsSigned long c.rem_euclid-distance.result = search rules in
+    rw c.in-ShiftLeft.is
+    (ap Some (shifted w64 c.args.number c.rem_euclid-distance.result c.args.count
+    c.ranges.number fits c.ranges.count (lit< tt)
+    c.rem_euclid-distance.ensures.value c.rem_euclid-distance.ensures.upper_bound))

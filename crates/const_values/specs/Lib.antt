@@ -1,0 +1,15 @@
+pub mod Arithmetic
+pub mod Binary
+pub mod Bitwise
+pub mod ClassFile
+pub mod Combined
+pub mod Comparison
+pub mod Concatenation
+pub mod Conditional
+pub mod Conversion
+pub mod Literal
+pub mod Numbers
+pub mod Outcome
+pub mod Promotion
+pub mod Shift
+pub mod Unary
