@@ -37,7 +37,8 @@ first_option [] = None
 first_option (name ∷ []) = None
 first_option (name ∷ (value ∷ words)) = Some (name, value, words)
 
-abbrev pub option_seen : Option (Bor (List ℕ) × Bor (List ℕ) × Bor (List (String Global))) → Option (List ℕ × List ℕ × List (List ℕ))
+abbrev pub option_seen : Option (Bor (List ℕ) × Bor (List ℕ) × Bor (List (String Global)))
+    → Option (List ℕ × List ℕ × List (List ℕ))
 option_seen None = None
 option_seen (Some o) = Some (o.0.now, o.1.now, map string_bytes o.2.now)
 
@@ -47,6 +48,7 @@ texts = map (λ text. text.now)
 abbrev pub values_seen : List (Vec (Bor (List ℕ)) Global) → List (List (List ℕ))
 values_seen = map (λ texts_of. texts texts_of.items)
 
-abbrev pub maybe_values_seen : Option (Vec (Vec (Bor (List ℕ)) Global) Global) → Option (List (List (List ℕ)))
+abbrev pub maybe_values_seen : Option (Vec (Vec (Bor (List ℕ)) Global) Global)
+    → Option (List (List (List ℕ)))
 maybe_values_seen None = None
 maybe_values_seen (Some values) = Some (values_seen values.items)

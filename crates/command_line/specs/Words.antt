@@ -1,5 +1,7 @@
 -- What the words of the command line ask for. The words are those behind the program's name.
-use Rattle.std.specs.Prelude.{ℕ, ◌==◌, ◌&&◌, ◌||◌, Bool, true, false, not, List, [], ◌∷◌, ◌++◌, map, filter, find, codes, nat_eq, bytes_eq, Option, Some, None, option_map, if◌then◌else◌}
+use Rattle.std.specs.Prelude.{ℕ, ◌==◌, ◌&&◌, ◌||◌, Bool, true, false, not, List, [], ◌∷◌, ◌++◌}
+use Rattle.std.specs.Prelude.{map, filter, find, codes, nat_eq, bytes_eq, Option, Some, None}
+use Rattle.std.specs.Prelude.{option_map, if◌then◌else◌}
 use Rattle.std.specs.List.{list_all, list_any, ends_with}
 use Rattle.command_line.specs.declared.job.TheConstants.{IJAR}
 
@@ -20,7 +22,9 @@ pub data Job : Type 0 where
   Doing : Command → Job
 
 abbrev pub is_archive : List ℕ → Bool
-is_archive word = ends_with nat_eq word (codes ".jar") || ends_with nat_eq word (codes ".zip") || ends_with nat_eq word (codes ".jmod")
+is_archive word =
+    ends_with nat_eq word (codes ".jar") || ends_with nat_eq word (codes ".zip")
+    || ends_with nat_eq word (codes ".jmod")
 
 -- what may stand behind an option: not empty, and not beginning with '-'
 abbrev pub is_value : List ℕ → Bool
@@ -49,7 +53,8 @@ is_named names name = list_any (λ n. bytes_eq n name) names
 abbrev pub values_of : List (List ℕ) → Option (List Given) → Option (List (List (List ℕ)))
 values_of names None = None
 values_of names (Some given) =
-    if list_all (λ o. is_named names o.0) given then Some (map (λ name. values name given) names) else None
+    if list_all (λ o. is_named names o.0) given then Some (map (λ name. values name given) names)
+    else None
 
 -- no name stands twice
 abbrev pub are_distinct : List (List ℕ) → Bool

@@ -1,5 +1,6 @@
 ghost use Rattle.std.specs.Prelude.{◌≡◌, map, string_bytes, find, Some, IfOk};
-ghost use Rattle.command_line.specs.Words.{is_archive, ijar as ijar_words, ijar_of, command as command_of, job};
+ghost use Rattle.command_line.specs.Words.{is_archive, ijar as ijar_words, ijar_of};
+ghost use Rattle.command_line.specs.Words.{command as command_of, job};
 ghost use Rattle.command_line.specs.Seen.{job_seen, maybe_command_seen, text_seen, values_seen};
 
 use crate::options::{option_values, path_value};

@@ -1,6 +1,10 @@
-ghost use Rattle.std.specs.Prelude.{◌≡◌, ◌<◌, ◌++◌, [], ◌∷◌, true, length, map, position, slice_index_or, slice_set, string_bytes, vec_len, bytes_eq, Some, None, IfOk, IfSome, IsTrue, OnOk, if◌then◌else◌};
-ghost use Rattle.command_line.specs.Words.{is_value as is_value_of, options, are_distinct, values_of, trimmed as trimmed_of, path_of};
-ghost use Rattle.command_line.specs.Seen.{text_seen, texts, values_seen, maybe_values_seen, option_seen, first_option as first_option_of};
+ghost use Rattle.std.specs.Prelude.{◌≡◌, ◌<◌, ◌++◌, [], ◌∷◌, true, length, map, position};
+ghost use Rattle.std.specs.Prelude.{slice_index_or, slice_set, string_bytes, vec_len, bytes_eq};
+ghost use Rattle.std.specs.Prelude.{Some, None, IfOk, IfSome, IsTrue, OnOk, if◌then◌else◌};
+ghost use Rattle.command_line.specs.Words.{is_value as is_value_of, options, are_distinct};
+ghost use Rattle.command_line.specs.Words.{values_of, trimmed as trimmed_of, path_of};
+ghost use Rattle.command_line.specs.Seen.{text_seen, texts, values_seen, maybe_values_seen};
+ghost use Rattle.command_line.specs.Seen.{option_seen, first_option as first_option_of};
 
 use hdr_core::Memory;
 use std::alloc::Global;

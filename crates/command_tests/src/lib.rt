@@ -1,4 +1,5 @@
-//! Examples of words, of paths and of runs: the tests of command_line and commands, in a crate of their own, so that the proofs of those are checked once.
+//! Examples of words, of paths and of runs: the tests of command_line and commands, in a crate of
+//! their own, so that the proofs of those are checked once.
 #![tactic(auto)]
 
 #[cfg(test)]

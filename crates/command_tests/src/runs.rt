@@ -7,7 +7,8 @@ use std::alloc::Global;
 use std::process::Abort;
 use std::thread::Threads;
 
-/// The public class A of the superclass java/lang/Object, its texts behind the classes that name them.
+/// The public class A of the superclass java/lang/Object, its texts behind the classes that name
+/// them.
 const PLAIN: &[u8] = b"\xca\xfe\xba\xbe\0\0\0\x3d\0\x05\
     \x07\0\x02\x01\0\x01A\x07\0\x04\x01\0\x10java/lang/Object\
     \0\x21\0\x01\0\x03\0\0\0\0\0\0\0\0";
@@ -17,7 +18,8 @@ const PLAIN_STRIPPED: &[u8] = b"\xca\xfe\xba\xbe\0\0\0\x3d\0\x05\
     \x01\0\x01A\x07\0\x01\x01\0\x10java/lang/Object\x07\0\x03\
     \0\x21\0\x02\0\x04\0\0\0\0\0\0\0\0";
 
-/// A with a private field, a private method, a class initialiser and a public method, each method with its code.
+/// A with a private field, a private method, a class initialiser and a public method, each method
+/// with its code.
 const MEMBERS: &[u8] = b"\xca\xfe\xba\xbe\0\0\0\x3d\0\x0c\
     \x07\0\x02\x01\0\x01A\x07\0\x04\x01\0\x10java/lang/Object\x01\0\x01f\x01\0\x01I\x01\0\x01p\
     \x01\0\x03()V\x01\0\x04Code\x01\0\x08<clinit>\x01\0\x01m\
@@ -209,7 +211,8 @@ fn tells_files_that_are_too_long(rt: HostRuntime) {
     }
 }
 
-/// A run over objects of which listed calls fail, and what comes of it. Each file has the same bytes.
+/// A run over objects of which listed calls fail, and what comes of it. Each file has the same
+/// bytes.
 #[derive(Drop)]
 struct Fault {
     words: &'static [&'static str],

@@ -1,5 +1,6 @@
 -- What is true of a run, by the way in which it ended.
-use Rattle.std.proofs.Common.{◌≡◌, ℕ, ◌-◌, ◌^◌, ◌<◌, List, [], refl, sym, ap, subst, ◌∙◌, inl, inr, ⊎_elim, arith}
+use Rattle.std.proofs.Common.{◌≡◌, ℕ, ◌-◌, ◌^◌, ◌<◌, List, [], refl, sym, ap, subst, ◌∙◌, inl}
+use Rattle.std.proofs.Common.{inr, ⊎_elim, arith}
 use Rattle.std.specs.Prelude.{string_bytes, Err, IfSome}
 use Rattle.hdr_core.specs.Causes.{Rose, grown, GrewByFront}
 use Rattle.hdr_core.specs.Diagnostics.{printed}
@@ -7,14 +8,17 @@ use Rattle.hdr_core.specs.declared.diagnostics.Diag.{Diag}
 use Rattle.command_line.specs.Words.{Refusal, Command, Job, Refused, Doing, refusal_line}
 use Rattle.commands.specs.Paths.{File}
 use Rattle.commands.specs.declared.status.Status.{Status}
-use Rattle.commands.specs.declared.status.Status.TheVariants.{Done, Diagnosed, Usage, ReadFault, WriteFault, Memory}
+use Rattle.commands.specs.declared.status.Status.TheVariants.{Done, Diagnosed, Usage, ReadFault}
+use Rattle.commands.specs.declared.status.Status.TheVariants.{WriteFault, Memory}
 use Rattle.commands.specs.declared.stop.Stop.{Stop}
 use Rattle.commands.specs.declared.stop.Stop.TheVariants as stop
 use Rattle.commands.specs.Outcome.{Outcome, outcome, outcome_of, made, diagnosed}
 use Rattle.commands.specs.Outside.{Outside, OutsState, SinkState, CanRise}
 use Rattle.commands.specs.Stops.{StopsOnly, FaultRises, IsPathOf}
-use Rattle.commands.specs.Tells.{TellsLine, LineTold, StopTold, FilesPut, GrewByFiles, fault_line, with_files}
-use Rattle.commands.specs.Runs.{Meets, MeetsFront, OfOutcome, FilesFailed, OthersFailed, Stood, Runs}
+use Rattle.commands.specs.Tells.{TellsLine, LineTold, StopTold, FilesPut, GrewByFiles, fault_line}
+use Rattle.commands.specs.Tells.{with_files}
+use Rattle.commands.specs.Runs.{Meets, MeetsFront, OfOutcome, FilesFailed, OthersFailed, Stood}
+use Rattle.commands.specs.Runs.{Runs}
 use Rattle.commands.proofs.Options.{if_some, from_some}
 use Rattle.commands.proofs.Told.{grown_nothing, grew_nothing, grew_whole}
 use Rattle.commands.proofs.Written.{with_none, wrote_nothing, wrote_all}
@@ -25,24 +29,33 @@ above before after few rose = omega arith
 level : (before after : ℕ) → after ≡ before → before < after → ⊥
 level before after same up = omega arith
 
-as_run : (j : Job) (s own : Status) (before after : Outside) → s ≡ own → Runs j own before after → Runs j s before after
-as_run j s own before after is r = let P : Status → Type 0 = λ t. Runs j t before after in subst P (sym is) r
+as_run : (j : Job) (s own : Status) (before after : Outside) → s ≡ own → Runs j own before after
+    → Runs j s before after
+as_run j s own before after is r = let P : Status → Type 0 = λ t. Runs j t before after in
+    subst P (sym is) r
 
 -- a sink that is told nothing tells the front of a text, and the whole of none
-same_front : (before after : SinkState) (text : List ℕ) → after ≡ before → GrewByFront before.told after.told text
-same_front before after text e = let P : SinkState → Type 0 = λ x. GrewByFront before.told x.told text in subst P (sym e) (grew_nothing before.told text)
+same_front : (before after : SinkState) (text : List ℕ) → after ≡ before
+    → GrewByFront before.told after.told text
+same_front before after text e = let P : SinkState → Type 0 =
+    λ x. GrewByFront before.told x.told text in subst P (sym e) (grew_nothing before.told text)
 
 same_told : (before after : SinkState) → after ≡ before → after.told ≡ grown before.told []
 same_told before after e = ap (λ (x : SinkState). x.told) e ∙ grown_nothing before.told
 
-same_files : (before after : OutsState) (files : List File) → after ≡ before → GrewByFiles before.written after.written files
-same_files before after files e = let P : OutsState → Type 0 = λ x. GrewByFiles before.written x.written files in subst P (sym e) (wrote_nothing before.written files)
+same_files : (before after : OutsState) (files : List File) → after ≡ before
+    → GrewByFiles before.written after.written files
+same_files before after files e = let P : OutsState → Type 0 =
+    λ x. GrewByFiles before.written x.written files in
+    subst P (sym e) (wrote_nothing before.written files)
 
-same_written : (before after : OutsState) → after ≡ before → after.written ≡ with_files before.written []
+same_written : (before after : OutsState) → after ≡ before
+    → after.written ≡ with_files before.written []
 same_written before after e = ap (λ (x : OutsState). x.written) e ∙ with_none before.written
 
 -- what is met is met as far as a front
-front_of : (o : Outcome) (s : Status) (before after : Outside) → Meets o s before after → MeetsFront o before after
+front_of : (o : Outcome) (s : Status) (before after : Outside) → Meets o s before after
+    → MeetsFront o before after
 front_of o s before after m = record {
   files = wrote_all before.outs.written after.outs.written o.files m.files;
   out = grew_whole before.out.told after.out.told o.out m.out;
@@ -52,7 +65,14 @@ front_of o s before after m = record {
 -- nothing is done, since memory ran out
 pub undone : (j : Job) (o : Outside) → Runs j Memory o o
 undone j o = record {
-  usage = λ _. record { is = inr refl; files = refl; outs = refl; front = none; whole = λ e. absurd cc };
+  usage =
+      λ _. record {
+        is = inr refl;
+        files = refl;
+        outs = refl;
+        front = none;
+        whole = λ e. absurd cc;
+      };
   usage_only = λ e. absurd cc;
   files_first = λ up. absurd (level o.files.faults o.files.faults refl up);
   read_fault = λ e. absurd cc;
@@ -79,15 +99,22 @@ module _ (before after : Outside) (few : CanRise before) (out : after.out ≡ be
   out_stood = ap (λ (x : SinkState). x.faults) out
 
   -- no count of the others rose
-  quiet : {P : Type 0} → after.outs.faults ≡ before.outs.faults → after.err.faults ≡ before.err.faults → OthersFailed before after → P
-  quiet outs err failed = absurd (⊎_elim (level before.outs.faults after.outs.faults outs) (⊎_elim (level before.out.faults after.out.faults out_stood) (level before.err.faults after.err.faults err)) failed)
+  quiet : {P : Type 0} → after.outs.faults ≡ before.outs.faults
+      → after.err.faults ≡ before.err.faults → OthersFailed before after → P
+  quiet outs err failed =
+      absurd
+      (⊎_elim (level before.outs.faults after.outs.faults outs)
+      (⊎_elim (level before.out.faults after.out.faults out_stood)
+      (level before.err.faults after.err.faults err)) failed)
 
   -- words that are no job
-  module _ (r : Refusal) (files : after.files ≡ before.files) (outs : after.outs ≡ before.outs) where
+  module _ (r : Refusal) (files : after.files ≡ before.files) (outs : after.outs
+      ≡ before.outs) where
     abbrev line : List ℕ
     line = refusal_line r
 
-    fronts_refused : GrewByFront before.err.told after.err.told line → (held : List File) → MeetsFront (outcome (Refused r) held) before after
+    fronts_refused : GrewByFront before.err.told after.err.told line → (held : List File)
+        → MeetsFront (outcome (Refused r) held) before after
     fronts_refused front held = record {
       files = same_files before.outs after.outs [] outs;
       out = same_front before.out after.out [] out;
@@ -95,7 +122,8 @@ module _ (before after : Outside) (few : CanRise before) (out : after.out ≡ be
     }
 
     still : {P : Type 0} → FilesFailed before after → P
-    still failed = absurd (level before.files.faults after.files.faults (ap (λ x. x.faults) files) failed)
+    still failed =
+        absurd (level before.files.faults after.files.faults (ap (λ x. x.faults) files) failed)
 
     in_usage : TellsLine line before.err after.err → Runs (Refused r) Usage before after
     in_usage t = record {
@@ -125,9 +153,17 @@ module _ (before after : Outside) (few : CanRise before) (out : after.out ≡ be
       out = out;
     }
 
-    refused_in_memory : GrewByFront before.err.told after.err.told line → Runs (Refused r) Memory before after
+    refused_in_memory : GrewByFront before.err.told after.err.told line
+        → Runs (Refused r) Memory before after
     refused_in_memory front = record {
-      usage = λ _. record { is = inr refl; files = files; outs = outs; front = fronts_refused front; whole = λ e. absurd cc };
+      usage =
+          λ _. record {
+            is = inr refl;
+            files = files;
+            outs = outs;
+            front = fronts_refused front;
+            whole = λ e. absurd cc;
+          };
       usage_only = λ e. absurd cc;
       files_first = λ failed. still failed;
       read_fault = λ e. absurd cc;
@@ -142,9 +178,11 @@ module _ (before after : Outside) (few : CanRise before) (out : after.out ≡ be
       out = out;
     }
 
-    pub refused : (s : Status) → LineTold Usage line s before.err after.err → Runs (Refused r) s before after
+    pub refused : (s : Status) → LineTold Usage line s before.err after.err
+        → Runs (Refused r) s before after
     refused s t =
-        ⊎_elim (λ u. as_run (Refused r) s Usage before after u.0 (in_usage u.1)) (λ m. as_run (Refused r) s Memory before after m.0 (refused_in_memory m.1)) t
+        ⊎_elim (λ u. as_run (Refused r) s Usage before after u.0 (in_usage u.1))
+        (λ m. as_run (Refused r) s Memory before after m.0 (refused_in_memory m.1)) t
 
   -- a command
   module _ (c : Command) where
@@ -152,15 +190,27 @@ module _ (before after : Outside) (few : CanRise before) (out : after.out ≡ be
     Fronts = OfOutcome (Doing c) before (λ o. MeetsFront o before after)
 
     -- a call on the files failed
-    module _ (rose : Rose before.files.faults after.files.faults) (outs : after.outs ≡ before.outs) (path : List ℕ) (named : IfSome before.files.held (λ held. IsPathOf held c path)) where
+    module _ (rose : Rose before.files.faults after.files.faults) (outs : after.outs ≡ before.outs)
+        (path : List ℕ) (named : IfSome before.files.held (λ held. IsPathOf held c path)) where
       failed : FilesFailed before after
       failed = above before.files.faults after.files.faults few.0 rose
 
-      in_read_fault : TellsLine (fault_line path) before.err after.err → Runs (Doing c) ReadFault before after
+      in_read_fault : TellsLine (fault_line path) before.err after.err
+          → Runs (Doing c) ReadFault before after
       in_read_fault t = record {
         usage = λ h. absurd cc;
         usage_only = λ e. absurd cc;
-        files_first = λ _. record { is = inl refl; outs = outs; path = path; named = named; front = t.front; whole = λ _ quiet. t.whole (λ rose. quiet (above before.err.faults after.err.faults few.3 rose)) };
+        files_first =
+            λ _. record {
+              is = inl refl;
+              outs = outs;
+              path = path;
+              named = named;
+              front = t.front;
+              whole =
+                  λ _ quiet. t.whole
+                  (λ rose. quiet (above before.err.faults after.err.faults few.3 rose));
+            };
         read_fault = λ _. failed;
         others_next = λ _ still _. absurd (still failed);
         write_fault = λ e. absurd cc;
@@ -173,11 +223,20 @@ module _ (before after : Outside) (few : CanRise before) (out : after.out ≡ be
         out = out;
       }
 
-      faulted_in_memory : GrewByFront before.err.told after.err.told (fault_line path) → Runs (Doing c) Memory before after
+      faulted_in_memory : GrewByFront before.err.told after.err.told (fault_line path)
+          → Runs (Doing c) Memory before after
       faulted_in_memory front = record {
         usage = λ h. absurd cc;
         usage_only = λ e. absurd cc;
-        files_first = λ _. record { is = inr refl; outs = outs; path = path; named = named; front = front; whole = λ e. absurd cc };
+        files_first =
+            λ _. record {
+              is = inr refl;
+              outs = outs;
+              path = path;
+              named = named;
+              front = front;
+              whole = λ e. absurd cc;
+            };
         read_fault = λ e. absurd cc;
         others_next = λ _ still _. absurd (still failed);
         write_fault = λ e. absurd cc;
@@ -207,7 +266,8 @@ module _ (before after : Outside) (few : CanRise before) (out : after.out ≡ be
         met = λ e. ⊎_elim (λ e. absurd cc) (λ e. absurd cc) e;
         complete = λ _ _. inr (inr refl);
         exact = λ _ _. if_some before.files.held _ (λ held _. inr refl);
-        unwritten = λ e. ⊎_elim (λ e. absurd cc) (λ e. ⊎_elim (λ e. absurd cc) (λ e. absurd cc) e) e;
+        unwritten =
+            λ e. ⊎_elim (λ e. absurd cc) (λ e. ⊎_elim (λ e. absurd cc) (λ e. absurd cc) e) e;
         silent = λ e. absurd cc;
         out = out;
       }
@@ -224,17 +284,20 @@ module _ (before after : Outside) (few : CanRise before) (out : after.out ≡ be
         met = λ e. ⊎_elim (λ e. absurd cc) (λ e. absurd cc) e;
         complete = λ _ none. absurd (none.others others);
         exact = λ _ none. absurd (none.others others);
-        unwritten = λ e. ⊎_elim (λ e. absurd cc) (λ e. ⊎_elim (λ e. absurd cc) (λ e. absurd cc) e) e;
+        unwritten =
+            λ e. ⊎_elim (λ e. absurd cc) (λ e. ⊎_elim (λ e. absurd cc) (λ e. absurd cc) e) e;
         silent = λ e. absurd cc;
         out = out;
       }
 
       -- no other call failed
-      module _ (outs : after.outs.faults ≡ before.outs.faults) (err : after.err.faults ≡ before.err.faults) where
+      module _ (outs : after.outs.faults ≡ before.outs.faults) (err : after.err.faults
+          ≡ before.err.faults) where
         stood : Stood before after
         stood = record { files = files; outs = outs; out = out_stood; err = err }
 
-        in_done : OfOutcome (Doing c) before (λ o. Meets o Done before after) → after.err ≡ before.err → Runs (Doing c) Done before after
+        in_done : OfOutcome (Doing c) before (λ o. Meets o Done before after)
+            → after.err ≡ before.err → Runs (Doing c) Done before after
         in_done met silent = record {
           usage = λ h. absurd cc;
           usage_only = λ e. absurd cc;
@@ -242,16 +305,25 @@ module _ (before after : Outside) (few : CanRise before) (out : after.out ≡ be
           read_fault = λ e. absurd cc;
           others_next = λ _ _ failed. quiet outs err failed;
           write_fault = λ e. absurd cc;
-          fronts = λ _. if_some before.files.held _ (λ held e. front_of (outcome_of c held) Done before after (from_some before.files.held _ held met e));
+          fronts =
+              λ _. if_some before.files.held _
+              (λ held e. front_of (outcome_of c held) Done before after
+              (from_some before.files.held _ held met e));
           met = λ _. (stood, met);
           complete = λ _ _. inl refl;
-          exact = λ _ _. if_some before.files.held _ (λ held e. let m : Meets (outcome_of c held) Done before after = from_some before.files.held _ held met e in inl m.is);
-          unwritten = λ e. ⊎_elim (λ e. absurd cc) (λ e. ⊎_elim (λ e. absurd cc) (λ e. absurd cc) e) e;
+          exact =
+              λ _ _. if_some before.files.held _
+              (λ held e. let m : Meets
+              (outcome_of c held) Done before after = from_some before.files.held _ held met e in
+              inl m.is);
+          unwritten =
+              λ e. ⊎_elim (λ e. absurd cc) (λ e. ⊎_elim (λ e. absurd cc) (λ e. absurd cc) e) e;
           silent = λ _. silent;
           out = out;
         }
 
-        in_diagnosed : OfOutcome (Doing c) before (λ o. Meets o Diagnosed before after) → after.outs ≡ before.outs → Runs (Doing c) Diagnosed before after
+        in_diagnosed : OfOutcome (Doing c) before (λ o. Meets o Diagnosed before after)
+            → after.outs ≡ before.outs → Runs (Doing c) Diagnosed before after
         in_diagnosed met unwritten = record {
           usage = λ h. absurd cc;
           usage_only = λ e. absurd cc;
@@ -259,33 +331,61 @@ module _ (before after : Outside) (few : CanRise before) (out : after.out ≡ be
           read_fault = λ e. absurd cc;
           others_next = λ _ _ failed. quiet outs err failed;
           write_fault = λ e. absurd cc;
-          fronts = λ _. if_some before.files.held _ (λ held e. front_of (outcome_of c held) Diagnosed before after (from_some before.files.held _ held met e));
+          fronts =
+              λ _. if_some before.files.held _
+              (λ held e. front_of (outcome_of c held) Diagnosed before after
+              (from_some before.files.held _ held met e));
           met = λ _. (stood, met);
           complete = λ _ _. inr (inl refl);
-          exact = λ _ _. if_some before.files.held _ (λ held e. let m : Meets (outcome_of c held) Diagnosed before after = from_some before.files.held _ held met e in inl m.is);
+          exact =
+              λ _ _. if_some before.files.held _
+              (λ held e. let m : Meets
+              (outcome_of c held) Diagnosed before after =
+              from_some before.files.held _ held met e in inl m.is);
           unwritten = λ _. unwritten;
           silent = λ e. absurd cc;
           out = out;
         }
 
     -- The files were made.
-    module _ (list : List File) (are : IfSome before.files.held (λ held. outcome_of c held ≡ made list)) (files : after.files.faults ≡ before.files.faults) (err : after.err ≡ before.err) where
+    module _ (list : List File)
+        (are : IfSome before.files.held (λ held. outcome_of c held ≡ made list))
+        (files : after.files.faults ≡ before.files.faults) (err : after.err ≡ before.err) where
       abbrev Of : (Outcome → Type 0) → Type 0
       Of P = OfOutcome (Doing c) before P
 
       of_made : (P : Outcome → Type 0) → P (made list) → Of P
-      of_made P p = if_some before.files.held _ (λ held e. subst P (sym (from_some before.files.held (λ held. outcome_of c held ≡ made list) held are e)) p)
+      of_made P p =
+          if_some before.files.held _
+          (λ held e. subst P
+          (sym (from_some before.files.held (λ held. outcome_of c held ≡ made list) held are e)) p)
 
       fronts_put : GrewByFiles before.outs.written after.outs.written list → Fronts
-      fronts_put wrote = of_made (λ o. MeetsFront o before after) (record { files = wrote; out = same_front before.out after.out [] out; err = same_front before.err after.err [] err })
+      fronts_put wrote =
+          of_made (λ o. MeetsFront o before after)
+          (record {
+            files = wrote;
+            out = same_front before.out after.out [] out;
+            err = same_front before.err after.err [] err;
+          })
 
-      pub put : (s : Status) → FilesPut list s before.outs after.outs → Runs (Doing c) s before after
+      pub put : (s : Status) → FilesPut list s before.outs after.outs
+          → Runs (Doing c) s before after
       put s p =
           ⊎_elim
-          (λ d. as_run (Doing c) s Done before after d.0 (in_done files d.1 (ap (λ (x : SinkState). x.faults) err)
-          (of_made (λ o. Meets o Done before after) (record { is = refl; files = d.2; out = same_told before.out after.out out; err = same_told before.err after.err err })) err))
+          (λ d. as_run (Doing c) s Done before after d.0
+          (in_done files d.1 (ap (λ (x : SinkState). x.faults) err)
+          (of_made (λ o. Meets o Done before after)
+          (record {
+            is = refl;
+            files = d.2;
+            out = same_told before.out after.out out;
+            err = same_told before.err after.err err;
+          })) err))
           (λ p. ⊎_elim
-          (λ w. as_run (Doing c) s WriteFault before after w.0 (in_write_fault files (inl (above before.outs.faults after.outs.faults few.1 w.1)) (fronts_put w.2)))
+          (λ w. as_run (Doing c) s WriteFault before after w.0
+          (in_write_fault files (inl (above before.outs.faults after.outs.faults few.1 w.1))
+          (fronts_put w.2)))
           (λ m. as_run (Doing c) s Memory before after m.0 (in_memory files (fronts_put m.1))) p)
           p
 
@@ -294,28 +394,56 @@ module _ (before after : Outside) (few : CanRise before) (out : after.out ≡ be
       abbrev AreDiags : List Diag → Type 0
       AreDiags list = IfSome before.files.held (λ held. outcome_of c held ≡ diagnosed list)
 
-      of_diagnosed : (list : List Diag) → AreDiags list → (P : Outcome → Type 0) → P (diagnosed list) → OfOutcome (Doing c) before P
-      of_diagnosed list are P p = if_some before.files.held _ (λ held e. subst P (sym (from_some before.files.held (λ held. outcome_of c held ≡ diagnosed list) held are e)) p)
+      of_diagnosed : (list : List Diag) → AreDiags list → (P : Outcome → Type 0)
+          → P (diagnosed list) → OfOutcome (Doing c) before P
+      of_diagnosed list are P p =
+          if_some before.files.held _
+          (λ held e. subst P
+          (sym (from_some before.files.held (λ held. outcome_of c held
+          ≡ diagnosed list) held are e)) p)
 
-      fronts_told : (list : List Diag) → AreDiags list → GrewByFront before.err.told after.err.told (printed list) → Fronts
-      fronts_told list are front = of_diagnosed list are (λ o. MeetsFront o before after) (record { files = same_files before.outs after.outs [] outs; out = same_front before.out after.out [] out; err = front })
+      fronts_told : (list : List Diag) → AreDiags list
+          → GrewByFront before.err.told after.err.told (printed list) → Fronts
+      fronts_told list are front =
+          of_diagnosed list are (λ o. MeetsFront o before after)
+          (record {
+            files = same_files before.outs after.outs [] outs;
+            out = same_front before.out after.out [] out;
+            err = front;
+          })
 
-      pub stopped : (why : Stop) → FaultRises {A = Unit {0}} (Err why) before.files.faults after.files.faults → StopsOnly why (λ path. IfSome before.files.held (λ held. IsPathOf held c path)) AreDiags
+      pub stopped : (why : Stop)
+          → FaultRises {A = Unit {0}} (Err why) before.files.faults after.files.faults
+          → StopsOnly why (λ path. IfSome before.files.held (λ held. IsPathOf held c path))
+          AreDiags
           → (s : Status) → StopTold why s before.err after.err → Runs (Doing c) s before after
       stopped (stop.Fault path) rose named s t =
           ⊎_elim
-          (λ r. as_run (Doing c) s ReadFault before after r.0 (in_read_fault rose outs (string_bytes path) named r.1))
-          (λ m. as_run (Doing c) s Memory before after m.0 (faulted_in_memory rose outs (string_bytes path) named m.1)) t
+          (λ r. as_run (Doing c) s ReadFault before after r.0
+          (in_read_fault rose outs (string_bytes path) named r.1))
+          (λ m. as_run (Doing c) s Memory before after m.0
+          (faulted_in_memory rose outs (string_bytes path) named m.1)) t
       stopped (stop.Diagnosed list) files are s t =
           ⊎_elim
-          (λ d. as_run (Doing c) s Diagnosed before after d.0 (in_diagnosed files (ap (λ (x : OutsState). x.faults) outs) d.1
-          (of_diagnosed list.items are (λ o. Meets o Diagnosed before after) (record { is = refl; files = same_written before.outs after.outs outs; out = same_told before.out after.out out; err = d.2 })) outs))
+          (λ d. as_run (Doing c) s Diagnosed before after d.0
+          (in_diagnosed files (ap (λ (x : OutsState). x.faults) outs) d.1
+          (of_diagnosed list.items are (λ o. Meets o Diagnosed before after)
+          (record {
+            is = refl;
+            files = same_written before.outs after.outs outs;
+            out = same_told before.out after.out out;
+            err = d.2;
+          })) outs))
           (λ t. ⊎_elim
-          (λ w. as_run (Doing c) s WriteFault before after w.0 (in_write_fault files (inr (inr (above before.err.faults after.err.faults few.3 w.1))) (fronts_told list.items are w.2)))
-          (λ m. as_run (Doing c) s Memory before after m.0 (in_memory files (fronts_told list.items are m.1))) t)
+          (λ w. as_run (Doing c) s WriteFault before after w.0
+          (in_write_fault files (inr (inr (above before.err.faults after.err.faults few.3 w.1)))
+          (fronts_told list.items are w.2)))
+          (λ m. as_run (Doing c) s Memory before after m.0
+          (in_memory files (fronts_told list.items are m.1))) t)
           t
       stopped stop.Memory files _ s t =
-          as_run (Doing c) s Memory before after t.0 (in_memory files (if_some before.files.held _ (λ held _. record {
+          as_run (Doing c) s Memory before after t.0
+          (in_memory files (if_some before.files.held _ (λ held _. record {
             files = same_files before.outs after.outs (outcome_of c held).files outs;
             out = same_front before.out after.out (outcome_of c held).out out;
             err = same_front before.err after.err (outcome_of c held).err t.1;

@@ -14,8 +14,11 @@ pub grew_nothing : (told : Option (List ℕ)) (text : List ℕ) → GrewByFront 
 grew_nothing told text = ([], text, refl, grown_nothing told)
 
 -- The whole is a front.
-pub grew_whole : (told told' : Option (List ℕ)) (text : List ℕ) → told' ≡ grown told text → GrewByFront told told' text
+pub grew_whole : (told told' : Option (List ℕ)) (text : List ℕ) → told' ≡ grown told text
+    → GrewByFront told told' text
 grew_whole told told' text e = (text, [], append-nil text, e)
 
-pub told_whole : (line : List ℕ) (before after : SinkState) → after.told ≡ grown before.told line → TellsLine line before after
-told_whole line before after e = record { front = grew_whole before.told after.told line e; whole = λ _. e }
+pub told_whole : (line : List ℕ) (before after : SinkState) → after.told ≡ grown before.told line
+    → TellsLine line before after
+told_whole line before after e =
+    record { front = grew_whole before.told after.told line e; whole = λ _. e }

@@ -1,4 +1,5 @@
--- What a job comes to: the files written, the texts and the status, from the words and the files held.
+-- What a job comes to: the files written, the texts and the status, from the words and the files
+-- held.
 use Rattle.std.specs.Prelude.{ℕ, List, [], ◌∷◌, ◌++◌, map, flat_map, codes, Result, Ok, Err}
 use Rattle.std.specs.Ordering.{nat_cmp, match_ordering}
 use Rattle.std.specs.Cmp.Lexicographic.{slice_cmp}
@@ -36,7 +37,9 @@ written_file output d = (output ++ (codes "/" ++ (d.name ++ codes ".class")), la
 -- a file goes before the first one of a greater path
 abbrev pub insert_file : List File → File → List File
 insert_file [] file = file ∷ []
-insert_file (first ∷ files) file = match_ordering (slice_cmp nat_cmp file.0 first.0) (file ∷ first ∷ files) (first ∷ insert_file files file) (first ∷ insert_file files file)
+insert_file (first ∷ files) file =
+    match_ordering (slice_cmp nat_cmp file.0 first.0) (file ∷ first ∷ files)
+    (first ∷ insert_file files file) (first ∷ insert_file files file)
 
 abbrev pub insert_files : List File → List File → List File
 insert_files done [] = done

@@ -1,5 +1,6 @@
 -- The diagnostics of a job, phase by phase. Only the first phase that has one is told.
-use Rattle.std.specs.Prelude.{ℕ, Bool, false, not, List, [], ◌∷◌, length, flat_map, codes, nat_eq, nat_lt, Option, Some, None, Result, Ok, Err, if◌then◌else◌}
+use Rattle.std.specs.Prelude.{ℕ, Bool, false, not, List, [], ◌∷◌, length, flat_map, codes, nat_eq}
+use Rattle.std.specs.Prelude.{nat_lt, Option, Some, None, Result, Ok, Err, if◌then◌else◌}
 use Rattle.std.specs.List.{ends_with, enumerate_from}
 use Rattle.hdr_core.specs.declared.code.Code.{Code}
 use Rattle.hdr_core.specs.declared.code.Code.TheVariants.{L1, F0, L4, L5, L9}
@@ -14,7 +15,8 @@ use Rattle.class_writer.specs.Refusal.{refusal}
 use Rattle.commands.specs.Paths.{File}
 
 abbrev pub diag_at : ℕ → List ℕ → Code → List ℕ → Diag
-diag_at file path code name = record { file = file; path = path; line = 0; code = code; name = name }
+diag_at file path code name =
+    record { file = file; path = path; line = 0; code = code; name = name }
 
 -- a used file with its number
 abbrev pub Numbered : Type 0
@@ -34,13 +36,15 @@ too_long n = if nat_lt 16777216 (length n.1.1) then diag_at n.0 n.1.0 L1 [] ∷ 
 
 -- what reading the files under a root finds
 abbrev pub reading : List ℕ → List File → List Diag
-reading root files = if is_sole files then flat_map too_long (numbered files) else diag_at 0 root F0 [] ∷ []
+reading root files =
+    if is_sole files then flat_map too_long (numbered files) else diag_at 0 root F0 [] ∷ []
 
 abbrev pub unspelled_of : Numbered → Result ClassDesc ClassFault → List Diag
 unspelled_of n (Ok d) = []
 unspelled_of n (Err fault) = diag_at n.0 n.1.0 F0 [] ∷ []
 
--- Each file that spells no class. Reading from front to back finds a class just where the bytes spell one: class_reader's law `reads_what_is_spelled`.
+-- Each file that spells no class. Reading from front to back finds a class just where the bytes
+-- spell one: class_reader's law `reads_what_is_spelled`.
 abbrev pub syntax_phase : List File → List Diag
 syntax_phase files = flat_map (λ n. unspelled_of n (class_of n.1.1)) (numbered files)
 

@@ -1,4 +1,5 @@
--- What is true of every run: of the job of its words, its status, and the outside before and after.
+-- What is true of every run: of the job of its words, its status, and the outside before and
+-- after.
 --
 -- Where an answer is said to come, want of memory may be answered in its place.
 use Rattle.std.specs.Prelude.{◌≡◌, ◌⊎◌, ℕ, ◌<◌, List, None, IfSome, IsSome}
@@ -6,7 +7,8 @@ use Rattle.hdr_core.specs.Causes.{grown, GrewByFront}
 use Rattle.command_line.specs.Words.{Job, usage_line}
 use Rattle.commands.specs.Paths.{File}
 use Rattle.commands.specs.declared.status.Status.{Status}
-use Rattle.commands.specs.declared.status.Status.TheVariants.{Done, Diagnosed, Usage, ReadFault, WriteFault, Memory}
+use Rattle.commands.specs.declared.status.Status.TheVariants.{Done, Diagnosed, Usage, ReadFault}
+use Rattle.commands.specs.declared.status.Status.TheVariants.{WriteFault, Memory}
 use Rattle.commands.specs.Outcome.{Outcome, outcome}
 use Rattle.commands.specs.Outside.{Outside}
 use Rattle.commands.specs.Stops.{IsPathOfJob}

@@ -1,6 +1,7 @@
 use Rattle.std.specs.Prelude.{ℕ}
 use Rattle.commands.specs.declared.status.Status.{Status}
-use Rattle.commands.specs.declared.status.Status.TheVariants.{Done, Diagnosed, Usage, ReadFault, WriteFault, Memory}
+use Rattle.commands.specs.declared.status.Status.TheVariants.{Done, Diagnosed, Usage, ReadFault}
+use Rattle.commands.specs.declared.status.Status.TheVariants.{WriteFault, Memory}
 
 -- the status of the process
 abbrev pub status_number : Status → ℕ

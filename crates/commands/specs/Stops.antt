@@ -1,5 +1,6 @@
 -- What is known where a job ends before anything is written.
-use Rattle.std.specs.Prelude.{◌≡◌, ◌⊎◌, ℕ, true, false, List, [], ◌∷◌, string_bytes, codes, nat_eq, Option, Some, None, Result, Ok, Err, Contains}
+use Rattle.std.specs.Prelude.{◌≡◌, ◌⊎◌, ℕ, true, false, List, [], ◌∷◌, string_bytes, codes}
+use Rattle.std.specs.Prelude.{nat_eq, Option, Some, None, Result, Ok, Err, Contains}
 use Rattle.std.specs.List.{ends_with}
 use Rattle.std.specs.declared.string.String.{String}
 use Rattle.std.specs.declared.alloc.Global.{Global}
@@ -39,8 +40,11 @@ IsRootOrUsed held root path = (path ≡ root) ⊎ Contains (used held root) path
 
 -- the only path of these, where it names no module
 abbrev pub IsSolePath : List (List ℕ) → Option (String Global) → Type 0
-IsSolePath paths (Some path) = (paths ≡ string_bytes path ∷ []) × (ends_with nat_eq (string_bytes path) (codes "module-info.class") ≡ false)
-IsSolePath paths None = (path : List ℕ) → paths ≡ path ∷ [] → ends_with nat_eq path (codes "module-info.class") ≡ true
+IsSolePath paths (Some path) =
+    (paths ≡ string_bytes path ∷ [])
+    × (ends_with nat_eq (string_bytes path) (codes "module-info.class") ≡ false)
+IsSolePath paths None = (path : List ℕ) → paths ≡ path ∷ []
+    → ends_with nat_eq path (codes "module-info.class") ≡ true
 
 -- a path at which a call on the files may fail
 abbrev pub IsPathOf : List File → Command → List ℕ → Type 0

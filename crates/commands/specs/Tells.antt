@@ -27,7 +27,8 @@ LineTold own line s before after =
 -- a text is told whole; or the sink failed, or memory ran out, behind a front of it
 abbrev pub DiagsTold : List ℕ → Status → SinkState → SinkState → Type 0
 DiagsTold text s before after =
-    ((s ≡ status.Diagnosed) × (after.faults ≡ before.faults) × (after.told ≡ grown before.told text))
+    ((s ≡ status.Diagnosed) × (after.faults ≡ before.faults)
+    × (after.told ≡ grown before.told text))
     ⊎ (((s ≡ status.WriteFault) × Rose before.faults after.faults
     × GrewByFront before.told after.told text)
     ⊎ ((s ≡ status.Memory) × GrewByFront before.told after.told text))
@@ -52,7 +53,8 @@ GrewByFiles before after files =
 -- the files are written; or a call failed, or memory ran out, behind a front of them
 abbrev pub FilesPut : List File → Status → OutsState → OutsState → Type 0
 FilesPut files s before after =
-    ((s ≡ status.Done) × (after.faults ≡ before.faults) × (after.written ≡ with_files before.written files))
+    ((s ≡ status.Done) × (after.faults ≡ before.faults)
+    × (after.written ≡ with_files before.written files))
     ⊎ (((s ≡ status.WriteFault) × Rose before.faults after.faults
     × GrewByFiles before.written after.written files)
     ⊎ ((s ≡ status.Memory) × GrewByFiles before.written after.written files))

@@ -22,7 +22,8 @@ fn make<F: Files>(alloc: Global, command: Command<'_>, files: &mut F) -> Result<
     ensures files { IfOk result (λ list. IfSome (F.held files.old) (λ held.
         outcome_of (command_seen command.entry) held ≡ made (map held_file list.items))) }
     ensures stops { IfErr result (λ stop. StopsOnly stop
-        (λ path. IfSome (F.held files.old) (λ held. IsPathOf held (command_seen command.entry) path))
+        (λ path. IfSome (F.held files.old)
+        (λ held. IsPathOf held (command_seen command.entry) path))
         (λ list. IfSome (F.held files.old) (λ held.
         outcome_of (command_seen command.entry) held ≡ diagnosed list))) }
     ensures faults { FaultRises result (F.faults files.old) (F.faults files.new) }

@@ -1,5 +1,6 @@
 //! The command `ijar`: class files to stripped class files.
-ghost use Rattle.std.specs.Prelude.{◌≡◌, ◌≤◌, ◌^◌, ◌++◌, [], ◌∷◌, true, IfOk, IfErr, IfSome, length, map, string_bytes, codes, None, Ok};
+ghost use Rattle.std.specs.Prelude.{◌≡◌, ◌≤◌, ◌^◌, ◌++◌, [], ◌∷◌, true, IfOk, IfErr, IfSome};
+ghost use Rattle.std.specs.Prelude.{length, map, string_bytes, codes, None, Ok};
 ghost use Rattle.class_desc.specs.ClassFile.{is_plain};
 ghost use Rattle.class_desc.specs.Layout.{HasNoAttributes};
 ghost use Rattle.class_views.specs.Strip.{strip_class};
@@ -7,22 +8,24 @@ ghost use Rattle.class_reader.specs.Reading.{class_of};
 ghost use Rattle.class_writer.specs.Refusal.{refusal};
 ghost use Rattle.commands.specs.Outcome.{classes, written, written_file, ijar, made, diagnosed};
 ghost use Rattle.commands.specs.Paths.{tree};
-ghost use Rattle.commands.specs.Phases.{diagnostics, later_phases, limit_code as limit_code_of, limit_diag, refused_as};
+ghost use Rattle.commands.specs.Phases.{diagnostics, later_phases, limit_code as limit_code_of};
+ghost use Rattle.commands.specs.Phases.{limit_diag, refused_as};
 ghost use Rattle.commands.specs.Stops.{IsFilled, StopsOnly, FaultRises, IsRootOrUsed, held_file};
 
 use crate::read::{diagnose, read_sole};
 use crate::stop::Stop;
-use crate::strip::strip;
 use class_desc::ClassDesc;
 use class_reader::{ReadErr, read_class};
 use class_writer::{PoolErr, write_class};
 use hdr_core::{Code, Files, HeldFile, Memory};
+use ijar_strip::into_stripped;
 use std::alloc::Global;
 
 /// The path of a class below the output folder. For now names are ASCII.
 fn class_path(alloc: Global, output: &str, name: &[u8]) -> Result<String, Memory>
     requires { is_plain name.now ≡ true }
-    ensures { IfOk result (λ path. string_bytes path ≡ output.now ++ (codes "/" ++ (name.now ++ codes ".class"))) }
+    ensures { IfOk result (λ path. string_bytes path
+        ≡ output.now ++ (codes "/" ++ (name.now ++ codes ".class"))) }
 {
     let Ok(name) = str::from_utf8(name) else {
         unreachable!()
@@ -40,7 +43,9 @@ fn spelled_class(alloc: Global, file: &HeldFile) -> Result<ClassDesc, Stop>
     ensures class { IfOk result (λ d. class_of file.now.bytes.items ≡ Ok d) }
     ensures bare { IfOk result (λ d. HasNoAttributes (strip_class d)) }
     ensures plain { IfOk result (λ d. is_plain d.name ≡ true) }
-    ensures stops { IfErr result (λ stop. StopsOnly stop (λ _. ⊥) (λ list. IsFilled list × (later_phases (held_file file.now ∷ []) ≡ list))) }
+    ensures stops { IfErr result
+        (λ stop. StopsOnly stop (λ _. ⊥) (λ list. IsFilled list
+        × (later_phases (held_file file.now ∷ []) ≡ list))) }
 {
     match read_class(alloc, &file.bytes) {
         Ok(desc) => Ok(desc),
@@ -58,13 +63,16 @@ fn spelled_class(alloc: Global, file: &HeldFile) -> Result<ClassDesc, Stop>
 fn stripped_class(alloc: Global, file: &HeldFile) -> Result<ClassDesc, Stop>
     requires { length file.now.bytes.items ≤ 2 ^ 24 }
     ensures class { IfOk result (λ stripped. classes (held_file file.now ∷ []) ≡ stripped ∷ []) }
-    ensures later { IfOk result (λ stripped. later_phases (held_file file.now ∷ []) ≡ limit_diag 0 (string_bytes file.now.path) stripped.name (refused_as (refusal stripped))) }
+    ensures later { IfOk result (λ stripped. later_phases (held_file file.now ∷ [])
+        ≡ limit_diag 0 (string_bytes file.now.path) stripped.name (refused_as (refusal stripped))) }
     ensures bare { IfOk result (λ stripped. HasNoAttributes stripped) }
     ensures plain { IfOk result (λ stripped. is_plain stripped.name ≡ true) }
-    ensures stops { IfErr result (λ stop. StopsOnly stop (λ _. ⊥) (λ list. IsFilled list × (later_phases (held_file file.now ∷ []) ≡ list))) }
+    ensures stops { IfErr result
+        (λ stop. StopsOnly stop (λ _. ⊥) (λ list. IsFilled list
+        × (later_phases (held_file file.now ∷ []) ≡ list))) }
 {
     let class = spelled_class(alloc, file)?;
-    Ok(strip(alloc, &class)?)
+    Ok(into_stripped(alloc, class)?)
 }
 
 /// The code of a refusal. Want of memory has none.
@@ -90,7 +98,9 @@ fn write_stripped(
     requires plain { is_plain stripped.now.name ≡ true }
     ensures written { IfOk result (λ file. held_file file ≡ written_file output.now stripped.now) }
     ensures fine { IfOk result (λ _. refusal stripped.now ≡ None) }
-    ensures stops { IfErr result (λ stop. StopsOnly stop (λ _. ⊥) (λ list. IsFilled list × (limit_diag 0 path.now stripped.now.name (refused_as (refusal stripped.now)) ≡ list))) }
+    ensures stops { IfErr result
+        (λ stop. StopsOnly stop (λ _. ⊥) (λ list. IsFilled list
+        × (limit_diag 0 path.now stripped.now.name (refused_as (refusal stripped.now)) ≡ list))) }
 {
     let name = stripped.name.bytes();
     match write_class(alloc, stripped) {
@@ -108,9 +118,12 @@ fn write_stripped(
 /// The file that is written for a class file.
 fn strip_file(alloc: Global, output: &str, file: &HeldFile) -> Result<HeldFile, Stop>
     requires { length file.now.bytes.items ≤ 2 ^ 24 }
-    ensures written { IfOk result (λ stripped. written output.now (held_file file.now ∷ []) ≡ held_file stripped ∷ []) }
+    ensures written { IfOk result (λ stripped. written output.now (held_file file.now ∷ [])
+        ≡ held_file stripped ∷ []) }
     ensures fine { IfOk result (λ _. later_phases (held_file file.now ∷ []) ≡ []) }
-    ensures stops { IfErr result (λ stop. StopsOnly stop (λ _. ⊥) (λ list. IsFilled list × (later_phases (held_file file.now ∷ []) ≡ list))) }
+    ensures stops { IfErr result
+        (λ stop. StopsOnly stop (λ _. ⊥) (λ list. IsFilled list
+        × (later_phases (held_file file.now ∷ []) ≡ list))) }
 {
     let stripped = stripped_class(alloc, file)?;
     write_stripped(alloc, output, file.path.as_str(), &stripped)

@@ -15,11 +15,14 @@ pub fn stripped_is_read_again()
     // The stripped description of one that some file spells is never refused.
     ensures written { (d : ClassDesc) → IsValid d → refusal (strip_class d) ≡ None }
     // Its file spells it.
-    ensures spelled { (d : ClassDesc) → IsValid d → ClassSpells (strip_class d) (layout (strip_class d)) }
+    ensures spelled { (d : ClassDesc) → IsValid d
+        → ClassSpells (strip_class d) (layout (strip_class d)) }
     // So whoever reads that file reads it.
-    ensures read { (d : ClassDesc) → IsValid d → class_of (layout (strip_class d)) ≡ Ok (strip_class d) }
+    ensures read { (d : ClassDesc) → IsValid d
+        → class_of (layout (strip_class d)) ≡ Ok (strip_class d) }
     // The same of a class that was itself read.
-    ensures again { (bytes : List ℕ) (d : ClassDesc) → AreBytes bytes → class_of bytes ≡ Ok d → class_of (layout (strip_class d)) ≡ Ok (strip_class d) }
+    ensures again { (bytes : List ℕ) (d : ClassDesc) → AreBytes bytes → class_of bytes ≡ Ok d
+        → class_of (layout (strip_class d)) ≡ Ok (strip_class d) }
 {
     stripped_is_valid();
     valid_is_written();

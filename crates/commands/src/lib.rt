@@ -8,7 +8,6 @@ mod put;
 mod read;
 mod status;
 mod stop;
-mod strip;
 mod tell;
 mod used;
 

@@ -1,10 +1,13 @@
 //! The way from the outside to the one class file of a job.
-ghost use Rattle.std.specs.Prelude.{◌≡◌, ◌≤◌, ◌<◌, ◌^◌, [], ◌∷◌, IfOk, IfErr, IfSome, IsSome, Contains, List, codes, length, map, nat_eq, string_bytes, Some};
+ghost use Rattle.std.specs.Prelude.{◌≡◌, ◌≤◌, ◌<◌, ◌^◌, [], ◌∷◌, IfOk, IfErr, IfSome, IsSome};
+ghost use Rattle.std.specs.Prelude.{Contains, List, codes, length, map, nat_eq, string_bytes};
+ghost use Rattle.std.specs.Prelude.{Some};
 ghost use Rattle.std.specs.List.{ends_with};
 ghost use Rattle.hdr_core.specs.Held.{held_at, IsListing};
 ghost use Rattle.commands.specs.Paths.{File, tree, used};
 ghost use Rattle.commands.specs.Phases.{diag_at, is_sole, reading};
-ghost use Rattle.commands.specs.Stops.{IsFilled, StopsOnly, FaultRises, IsRootOrUsed, held_file, IsSolePath};
+ghost use Rattle.commands.specs.Stops.{IsFilled, StopsOnly, FaultRises, IsRootOrUsed, held_file};
+ghost use Rattle.commands.specs.Stops.{IsSolePath};
 
 use crate::stop::Stop;
 use crate::used::used_paths;
@@ -35,8 +38,11 @@ fn names_module(path: &str) -> bool
 
 /// The one class file that is used below the root, if there is just one. Modules are not read yet.
 fn sole_path(alloc: Global, root: &str, listed: &[String]) -> Result<Option<String>, Memory>
-    ensures sole { IfOk result (λ path. (held : List File) → IsListing held root.now (map string_bytes listed.now) → IsSolePath (used held root.now) path) }
-    ensures listed { IfOk result (λ path. IfSome path (λ p. Contains (map string_bytes listed.now) (string_bytes p))) }
+    ensures sole { IfOk result
+        (λ path. (held : List File) → IsListing held root.now (map string_bytes listed.now)
+        → IsSolePath (used held root.now) path) }
+    ensures listed { IfOk result
+        (λ path. IfSome path (λ p. Contains (map string_bytes listed.now) (string_bytes p))) }
 {
     let mut paths = used_paths(alloc, root, listed)?;
     let Some(path) = paths.pop_first() else {
@@ -51,8 +57,15 @@ fn sole_path(alloc: Global, root: &str, listed: &[String]) -> Result<Option<Stri
 /// Reads the class file at a path.
 fn read_file<F: Files>(alloc: Global, path: String, files: &mut F) -> Result<HeldFile, Stop>
     requires { IfSome (F.held files.old) (λ held. IsSome (held_at held (string_bytes path))) }
-    ensures file { IfOk result (λ file. (string_bytes file.path ≡ string_bytes path) × (length file.bytes.items ≤ 2 ^ 24) × IfSome (F.held files.old) (λ held. held_at held (string_bytes path) ≡ Some file.bytes.items)) }
-    ensures stops { IfErr result (λ stop. StopsOnly stop (λ p. p ≡ string_bytes path) (λ list. (list ≡ diag_at 0 (string_bytes path) Code.L1 [] ∷ []) × IfSome (F.held files.old) (λ held. IfSome (held_at held (string_bytes path)) (λ bytes. 2 ^ 24 < length bytes)))) }
+    ensures file { IfOk result (λ file. (string_bytes file.path ≡ string_bytes path)
+        × (length file.bytes.items ≤ 2 ^ 24)
+        × IfSome (F.held files.old) (λ held. held_at held (string_bytes path)
+        ≡ Some file.bytes.items)) }
+    ensures stops { IfErr result
+        (λ stop. StopsOnly stop (λ p. p ≡ string_bytes path)
+        (λ list. (list ≡ diag_at 0 (string_bytes path) Code.L1 [] ∷ [])
+        × IfSome (F.held files.old)
+        (λ held. IfSome (held_at held (string_bytes path)) (λ bytes. 2 ^ 24 < length bytes)))) }
     ensures faults { FaultRises result (F.faults files.old) (F.faults files.new) }
     ensures held { F.held files.new ≡ F.held files.old }
 {
@@ -71,8 +84,14 @@ fn read_file<F: Files>(alloc: Global, path: String, files: &mut F) -> Result<Hel
 /// Lists a root and reads its one class file.
 pub fn read_sole<F: Files>(alloc: Global, root: &str, files: &mut F) -> Result<HeldFile, Stop>
     ensures short { IfOk result (λ file. length file.bytes.items ≤ 2 ^ 24) }
-    ensures tree { IfOk result (λ file. IfSome (F.held files.old) (λ held. (tree held root.now ≡ held_file file ∷ []) × (reading root.now (tree held root.now) ≡ []))) }
-    ensures stops { IfErr result (λ stop. StopsOnly stop (λ path. IfSome (F.held files.old) (λ held. IsRootOrUsed held root.now path)) (λ list. IsFilled list × IfSome (F.held files.old) (λ held. reading root.now (tree held root.now) ≡ list))) }
+    ensures tree { IfOk result
+        (λ file. IfSome (F.held files.old) (λ held. (tree held root.now ≡ held_file file ∷ [])
+        × (reading root.now (tree held root.now) ≡ []))) }
+    ensures stops { IfErr result
+        (λ stop. StopsOnly stop
+        (λ path. IfSome (F.held files.old) (λ held. IsRootOrUsed held root.now path))
+        (λ list. IsFilled list
+        × IfSome (F.held files.old) (λ held. reading root.now (tree held root.now) ≡ list))) }
     ensures faults { FaultRises result (F.faults files.old) (F.faults files.new) }
     ensures held { F.held files.new ≡ F.held files.old }
 {

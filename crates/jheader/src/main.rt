@@ -10,7 +10,8 @@ use std::process::ExitCode;
 use std::{env, io};
 use stream::StandardStream;
 
-/// The words behind the program's name. Words that aren't UTF-8 are no job, so none are handed on then.
+/// The words behind the program's name. Words that aren't UTF-8 are no job, so none are handed on
+/// then.
 fn words(rt: &HostRuntime) -> io::Result<Vec<String>> {
     let mut words = Vec::new(rt.alloc());
     let given = match env::args(rt) {

@@ -5,7 +5,9 @@ use Rattle.command_line.proofs.Values.{Walked}
 use Rattle.command_line.proofs.options.gather.Given as goal
 
 abbrev pub invariant-loop-name : goal.invariant-loop-name
-invariant-loop-name l = Walked (texts l.names) (map string_bytes l.fn.words) (map string_bytes l.rest) (values_seen l.values.items)
+invariant-loop-name l =
+    Walked (texts l.names) (map string_bytes l.fn.words) (map string_bytes l.rest)
+    (values_seen l.values.items)
 
 abbrev pub decreases-loop-name : goal.decreases-loop-name
 decreases-loop-name l = length l.rest

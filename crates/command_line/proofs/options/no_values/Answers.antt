@@ -5,7 +5,9 @@ use Rattle.command_line.proofs.options.no_values.Goals as goal
 pub loop-name-preserved : goal.loop-name-preserved
 loop-name-preserved c =
     let below : c.loop-name._name-index < length c.args.names.now = omega arith in
-    rw c.in_ok-push.ensures.items (one_more c.args.names.now c.loop-name._name-index c.loop-name.values.items c.new.result below c.new.ensures.items c.loop-name.invariant)
+    rw c.in_ok-push.ensures.items
+    (one_more c.args.names.now c.loop-name._name-index c.loop-name.values.items c.new.result below
+    c.new.ensures.items c.loop-name.invariant)
 
 pub returns : goal.returns
 returns c =

@@ -9,6 +9,7 @@ invariant-loop-file g l =
     let written = g.O.Outs.written in
     let faults = g.O.Outs.faults in
     record {
-      written : written l.outs ≡ with_files (written l.fn.outs) (map held_file (take l.file-index l.files));
+      written : written l.outs
+          ≡ with_files (written l.fn.outs) (map held_file (take l.file-index l.files));
       faults : faults l.outs ≡ faults l.fn.outs;
     }
