@@ -1,4 +1,4 @@
--- The text of a source: from bytes to UTF-16 units (JLS 3.2, 3.3, 3.5).
+-- The text of a source: from bytes to UTF-16 units (JLS 3.1, 3.2, 3.3, 3.5).
 use Rattle.std.specs.Prelude.{ℕ, zero, suc, ◌+◌, ◌*◌, ◌-◌, Bool, true, false, ◌&&◌, ◌||◌, not}
 use Rattle.std.specs.Prelude.{◌==◌, nat_lt, List, [], ◌∷◌, length, map, take, drop, take_while}
 use Rattle.std.specs.Prelude.{slice_index, Option, Some, None, if◌then◌else◌}
@@ -10,7 +10,7 @@ use Rattle.std.specs.Char.Escape.{encode_utf16}
 use Rattle.java_text.specs.declared.character.TheConstants.{BACKSLASH, LETTER_U, SUBSTITUTE}
 use Rattle.java_text.specs.declared.escape.Input.{Input}
 
--- the UTF-16 units of the longest front of the bytes that is UTF-8
+-- the UTF-16 units (JLS 3.1) of the longest front of the bytes that is UTF-8
 abbrev pub raw_units : List ℕ → List ℕ
 raw_units bytes = flat_map encode_utf16 (chars (take (utf8_valid_len bytes) bytes))
 

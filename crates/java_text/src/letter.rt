@@ -42,7 +42,7 @@ fn is_ascii_letter(code_point: u32) -> bool
 fn is_ascii_letter_or_digit(code_point: u32) -> bool
     ensures { result ≡ is_ascii_part code_point }
 {
-    is_ascii_letter(code_point) || matches!(code_point, 0x30..=0x39 | 0..=0x08 | 0x0E..=0x1B | 0x7F)
+    is_ascii_letter(code_point) || matches!(code_point, 0..=8 | 0x0E..=0x1B | 0x30..=0x39 | 0x7F)
 }
 
 #[tactic(auto, unfolding(crate::specs::Letters::is_start))]

@@ -1,4 +1,4 @@
-//! The text of a Java source (JLS 3.2 to 3.5, 3.8).
+//! The text of a Java source (JLS 3.1 to 3.5, 3.8).
 #![tactic(auto)]
 
 mod character;

@@ -21,13 +21,13 @@ pub struct SourceText {
     pub whole: bool,
 }
 
-/// The text of the bytes (JLS 3.2, 3.3, 3.5).
+/// The text of the bytes (JLS 3.1, 3.2, 3.3, 3.5).
 pub fn source_text(alloc: Global, bytes: &[u8]) -> Result<SourceText, Memory>
     ensures text { IfOk result (λ source. source.units.items ≡ text_of bytes.now) }
     ensures whole { IfOk result (λ source. source.whole ≡ is_all_utf8 bytes.now) }
     // There are no more units than bytes, and fewer where a byte is no UTF-8.
     ensures room { IfOk result
-        (λ source. length source.units.items + (if source.whole then 0 else 1) ≤ length bytes.now) }
+        (λ text. length text.units.items + (if text.whole then 0 else 1) ≤ length bytes.now) }
 {
     let text = longest_utf8(bytes);
     let whole = text.len() == bytes.len();

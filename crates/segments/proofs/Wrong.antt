@@ -246,7 +246,8 @@ module _ (t : Token) (ts : List Token) (l : Level) (bs : List Open) (w : Place) 
     → verdict (run (at l bs w d) ts) ≡ wrong_among (unpaired (marks bs ++ map bracket_of ts)))
   where
     marked : (m : Mark) → mark_of t ≡ m
-        → wrong_among (unpaired (marks bs ++ record { mark = m; line = t.line } ∷ map bracket_of ts))
+        → wrong_among
+        (unpaired (marks bs ++ record { mark = m; line = t.line } ∷ map bracket_of ts))
         ≡ wrong_among (unpaired (marks bs ++ bracket_of t ∷ map bracket_of ts))
     marked m e =
         ap (λ x. wrong_among

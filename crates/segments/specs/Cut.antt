@@ -66,8 +66,9 @@ is_assigned_since_semicolon before = is_assigned (after_last (begins is_semicolo
 
 -- the place behind `piece`, of a list that has the pieces `before` in front of it, is an end: the
 -- piece is a `;`, or a group in braces that has no `default` right before it, and no `=` outside
--- brackets behind the last `;`. So a body ends a declaration (JLS 8.1.7, 8.4.7, 8.6 to 8.8), and
--- an initialiser (JLS 8.3) and the default value of an annotation's element (JLS 9.6.2) don't
+-- brackets behind the last `;`. So a body ends a declaration (JLS 8.1.7, 8.4.7, 8.6 to 8.8, 8.10.4,
+-- 9.1.5, 9.4.3) and the class body of an enum constant ends a segment (JLS 8.9.1), and an
+-- initialiser (JLS 8.3) and the default value of an annotation's element (JLS 9.6.2) don't
 abbrev pub is_end : List Piece → Piece → Bool
 is_end before piece =
     begins is_semicolon piece || (begins opens_braces piece

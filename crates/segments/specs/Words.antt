@@ -36,7 +36,7 @@ kind_is_default _ = false
 unfoldable pub is_default : Token → Bool
 is_default token = kind_is_default token.kind
 
--- `class`, `interface`, `enum` (JLS 8.1, 8.9, 9.1)
+-- `class`, `enum`, and `interface`, also of `@interface` (JLS 8.1, 8.9, 9.1, 9.6)
 abbrev pub kind_names_class : TokenKind → Bool
 kind_names_class (kind.Keyword word.Class) = true
 kind_names_class (kind.Keyword word.Interface) = true

@@ -33,7 +33,7 @@ pub fn is_default(token: &Token) -> bool
     matches!(&token.kind, TokenKind::Keyword(Kw::Default))
 }
 
-/// These tokens begin with what makes a declaration one of a class (JLS 8.1, 8.9, 8.10, 9.1).
+/// These tokens begin with what makes a declaration one of a class (JLS 8.1, 8.9, 8.10, 9.1, 9.6).
 #[tactic(auto, unfolding(crate::specs::Words::begins_class))]
 pub fn begins_class(tokens: &[Token]) -> bool
     ensures { result ≡ begins_class tokens.now }
