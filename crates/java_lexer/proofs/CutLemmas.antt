@@ -12,8 +12,7 @@ use Rattle.java_lexer.specs.Pieces.{kind_of, longest_up_to, or_shorter, piece_at
 use Rattle.java_lexer.specs.Grammar.{kind_by, comment}
 use Rattle.java_lexer.specs.Tokens.{token_of}
 use Rattle.java_lexer.specs.Lexing.{Cut, with_token, ended, with_piece, cut_up_to, line_behind}
-use Rattle.java_lexer.specs.Lexing.{line_ends}
-use Rattle.java_lexer.specs.Cutting.{ends_in_return, tokens_at}
+use Rattle.java_lexer.specs.Cutting.{ends_begun, ends_in_return, tokens_at}
 
 -- a longest piece is not empty
 some_front : (kind : List ℕ → Option Kind) (n : ℕ) (units : List ℕ)
@@ -162,11 +161,11 @@ cut_ends at tokens units h =
 
 -- line terminators of two parts
 
-pub line_ends-append : (r : Bool) (xs ys : List ℕ)
-    → line_ends r (xs ++ ys) ≡ line_ends r xs + line_ends (ends_in_return r xs) ys
-unfolding line_ends ends_in_return
-line_ends-append r [] ys = omega arith
-line_ends-append r (c ∷ xs) ys = let h = line_ends-append (c == 13) xs ys in omega (arith, h)
+pub ends_begun-append : (r : Bool) (xs ys : List ℕ)
+    → ends_begun r (xs ++ ys) ≡ ends_begun r xs + ends_begun (ends_in_return r xs) ys
+unfolding ends_begun ends_in_return
+ends_begun-append r [] ys = omega arith
+ends_begun-append r (c ∷ xs) ys = let h = ends_begun-append (c == 13) xs ys in omega (arith, h)
 
 pub ends_in_return-append : (r : Bool) (xs ys : List ℕ)
     → ends_in_return r (xs ++ ys) ≡ ends_in_return (ends_in_return r xs) ys
@@ -176,11 +175,11 @@ ends_in_return-append r (c ∷ xs) ys = ends_in_return-append (c == 13) xs ys
 
 -- a piece further on
 pub line_ends_further : (at n : ℕ) (units : List ℕ)
-    → line_ends false (take (at + n) units)
-    ≡ line_ends false (take at units) + line_ends (ends_in_return false (take at units))
+    → ends_begun false (take (at + n) units)
+    ≡ ends_begun false (take at units) + ends_begun (ends_in_return false (take at units))
     (take n (drop at units))
-line_ends_further at n units = ap (line_ends false) (sym (take_further at n units))
-    ∙ line_ends-append false (take at units) (take n (drop at units))
+line_ends_further at n units = ap (ends_begun false) (sym (take_further at n units))
+    ∙ ends_begun-append false (take at units) (take n (drop at units))
 
 pub ends_in_return_further : (at n : ℕ) (units : List ℕ)
     → ends_in_return false (take (at + n) units)
@@ -190,10 +189,10 @@ ends_in_return_further at n units = ap (ends_in_return false) (sym (take_further
 
 -- one unit of a piece
 pub ends_step : (r : Bool) (i : ℕ) (units : List ℕ) → i < length units
-    → line_ends r (drop i units)
-    ≡ (if get_or units i 0 == 13 || (get_or units i 0 == 10 && not r) then 1 else 0) + line_ends
-    (get_or units i 0 == 13) (drop (i + 1) units)
-unfolding line_ends
+    → ends_begun r (drop i units)
+    ≡ (if get_or units i 0 == 13 || (get_or units i 0 == 10 && not r) then 1 else 0)
+    + ends_begun (get_or units i 0 == 13) (drop (i + 1) units)
+unfolding ends_begun
 ends_step r i units h = rw (drop_more units i 0 h) refl
 
 pub return_step : (r : Bool) (i : ℕ) (units : List ℕ) → i < length units
@@ -203,8 +202,8 @@ unfolding ends_in_return
 return_step r i units h = rw (drop_more units i 0 h) refl
 
 pub ends_none : (r : Bool) (i : ℕ) (units : List ℕ) → length units ≤ i
-    → line_ends r (drop i units) ≡ 0
-unfolding line_ends
+    → ends_begun r (drop i units) ≡ 0
+unfolding ends_begun
 ends_none r i units h = rw (drop_all i units h) refl
 
 pub return_none : (r : Bool) (i : ℕ) (units : List ℕ) → length units ≤ i
@@ -216,7 +215,7 @@ return_none r i units h = rw (drop_all i units h) refl
 pub ends_moved : (a b i : ℕ) (r s : Bool) (units : List ℕ) → i < length units
     → b ≡ (if get_or units i 0 == 13 || (get_or units i 0 == 10 && not r) then 1 else 0) + a
     → s ≡ (get_or units i 0 == 13)
-    → b + line_ends s (drop (i + 1) units) ≡ a + line_ends r (drop i units)
+    → b + ends_begun s (drop (i + 1) units) ≡ a + ends_begun r (drop i units)
 ends_moved a b i r s units h e l = rw (e, l, ends_step r i units h) (omega arith)
 
 pub return_moved : (i : ℕ) (r s : Bool) (units : List ℕ) → i < length units

@@ -1,8 +1,9 @@
 -- What strings and text blocks stand for has units of 16 bits.
-use Rattle.std.proofs.Common.{◌≡◌, ℕ, zero, suc, ◌+◌, ◌*◌, ◌-◌, ◌<◌, ◌≤◌, Bool, true, false, ◌&&◌}
-use Rattle.std.proofs.Common.{◌==◌, nat_lt, List, [], ◌∷◌, length, drop, cond, slice_index, refl}
-use Rattle.std.proofs.Common.{arith, if◌then◌else◌}
-use Rattle.std.specs.List.{concat, list_all, AllByRecursion}
+use Rattle.std.proofs.Common.{◌≡◌, ℕ, zero, suc, ◌+◌, ◌*◌, ◌-◌, ◌<◌, ◌≤◌, Bool, true, false}
+use Rattle.std.proofs.Common.{◌==◌, nat_lt, List, [], ◌∷◌, length, map, drop, cond, slice_index}
+use Rattle.std.proofs.Common.{refl, arith, if◌then◌else◌}
+use Rattle.std.specs.List.{concat, list_all, AllByRecursion, after_first, onto_first}
+use Rattle.std.specs.List.{join_with_byte}
 use Rattle.std.specs.Char.{digit_value}
 use Rattle.std.proofs.lemmas.Bool.{ltb-true}
 use Rattle.java_text.specs.declared.character.TheConstants.{BACKSLASH, LINE_FEED}
@@ -11,8 +12,9 @@ use Rattle.java_lexer.specs.declared.escape.TheConstants.{SIMPLE_ESCAPES}
 use Rattle.java_lexer.specs.Escapes.{is_octal_digit, octal_length, octal_value, octal_digit_value}
 use Rattle.java_lexer.specs.Escapes.{look_up, escape_value, escape_units, escape_length}
 use Rattle.java_lexer.specs.Escapes.{first_item, items_up_to, unescaped, string_units}
-use Rattle.java_lexer.specs.Blocks.{unified_from, behind_line, content, beginning, lines, none}
-use Rattle.java_lexer.specs.Blocks.{is_blank, margin, trimmed, stripped, block_units}
+use Rattle.java_lexer.specs.LineTerminators.{is_line_feed, begins_with_pair}
+use Rattle.java_lexer.specs.LineTerminators.{without_paired_returns, without_return, normalized}
+use Rattle.java_lexer.specs.Blocks.{content, lines, margin, kept, stripped, block_units}
 
 fit_index : (i : ℕ) (units : List ℕ) → Fit units → slice_index units i < 65536
 fit_index i [] h = omega arith
@@ -115,56 +117,56 @@ string_fits units h =
 
 -- ---- text blocks
 
-unified_fits : (after : Bool) (units : List ℕ) → Fit units → Fit (unified_from after units)
-unfolding unified_from
-unified_fits after [] h = tt
-unified_fits after (c ∷ units) h =
-    chosen_fit (c == 10 && after) _ _ (unified_fits false units h.1)
-    (chosen (c == 13) 10 c (omega arith) h.0, unified_fits (c == 13) units h.1)
+paired_fits : (units : List ℕ) → Fit units → Fit (without_paired_returns units)
+unfolding without_paired_returns
+paired_fits [] h = tt
+paired_fits (c ∷ units) h =
+    chosen_fit (begins_with_pair (c ∷ units)) _ _ (paired_fits units h.1)
+    (h.0, paired_fits units h.1)
 
-behind_fits : (units : List ℕ) → Fit units → Fit (behind_line units)
-behind_fits [] h = tt
-behind_fits (c ∷ units) h = chosen_fit (c == 10) _ _ h.1 (behind_fits units h.1)
+returns_fit : (units : List ℕ) → Fit units → Fit (map without_return units)
+returns_fit [] h = tt
+returns_fit (c ∷ units) h = (chosen (c == 13) 10 c (omega arith) h.0, returns_fit units h.1)
+
+normalized_fits : (units : List ℕ) → Fit units → Fit (normalized units)
+unfolding normalized
+normalized_fits units h = returns_fit (without_paired_returns units) (paired_fits units h)
 
 abbrev AllFit : List (List ℕ) → Type 0
 AllFit ls = AllByRecursion Fit ls
 
-beginning_fits : (c : ℕ) (ls : List (List ℕ)) → c < 65536 → AllFit ls → AllFit (beginning c ls)
-beginning_fits c [] h k = ((h, tt), tt)
-beginning_fits c (line ∷ ls) h k = ((h, k.0), k.1)
+onto_first_fits : (c : ℕ) (ls : List (List ℕ)) → c < 65536 → AllFit ls → AllFit (onto_first c ls)
+onto_first_fits c [] h k = ((h, tt), tt)
+onto_first_fits c (line ∷ ls) h k = ((h, k.0), k.1)
 
-chosen_lines : (b : Bool) (xs ys : List (List ℕ)) → AllFit xs → AllFit ys
-    → AllFit (if b then xs else ys)
+chosen_lines : (b : Bool) (xs ys : List (List ℕ)) → AllFit xs → AllFit ys → AllFit (cond b xs ys)
 chosen_lines true xs ys h k = h
 chosen_lines false xs ys h k = k
 
 lines_fit : (units : List ℕ) → Fit units → AllFit (lines units)
-unfolding lines
 lines_fit [] h = (tt, tt)
 lines_fit (c ∷ units) h =
     chosen_lines (c == 10) _ _ (tt, lines_fit units h.1)
-    (beginning_fits c (lines units) h.0 (lines_fit units h.1))
+    (onto_first_fits c (lines units) h.0 (lines_fit units h.1))
 
-trimmed_fits : (line : List ℕ) → Fit line → Fit (trimmed line)
-trimmed_fits [] h = tt
-trimmed_fits (c ∷ line) h = chosen_fit (is_blank (c ∷ line)) _ _ tt (h.0, trimmed_fits line h.1)
+kept_fits : (width : ℕ) (line : List ℕ) → Fit line → Fit (kept width line)
+kept_fits width line h = fit-take _ (drop width line) (fit-drop width line h)
 
-stripped_fits : (width : ℕ) (ls : List (List ℕ)) → AllFit ls → Fit (stripped width ls)
-unfolding stripped
-stripped_fits width [] h = tt
-stripped_fits width (line ∷ ls) h =
-    fit-append (trimmed (drop width line)) _
-    (trimmed_fits (drop width line) (fit-drop width line h.0))
-    (chosen_fit (none ls) _ _ tt (omega arith, stripped_fits width ls h.1))
+joined_fits : (width : ℕ) (ls : List (List ℕ)) → AllFit ls
+    → Fit (join_with_byte LINE_FEED (map (kept width) ls))
+joined_fits width [] h = tt
+joined_fits width (line ∷ []) h = kept_fits width line h.0
+joined_fits width (line ∷ next ∷ ls) h =
+    fit-append (kept width line) _ (kept_fits width line h.0)
+    (omega arith, joined_fits width (next ∷ ls) h.1)
 
 content_fits : (units : List ℕ) → Fit units → Fit (content units)
-content_fits units h = let inner = behind_line (unified_from false units) in
-    fit-take (length inner - 3) inner
-    (behind_fits (unified_from false units) (unified_fits false units h))
+content_fits units h = let inner = after_first is_line_feed (normalized units) in
+    fit-take (length inner - 3) inner (fit-drop _ (normalized units) (normalized_fits units h))
 
 pub block_fits : (units : List ℕ) → Fit units → Fit (block_units units)
+unfolding stripped
 block_fits units h =
     unescaped_fits _
-    (stripped_fits (margin (length (content units)) (lines (content units)))
-    (lines (content units))
+    (joined_fits (margin (content units)) (lines (content units))
     (lines_fit (content units) (content_fits units h)))

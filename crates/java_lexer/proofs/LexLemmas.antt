@@ -6,7 +6,8 @@ use Rattle.java_token.specs.declared.token.Token.{Token}
 use Rattle.java_text.specs.Source.{text_of, is_all_utf8}
 use Rattle.java_lexer.specs.declared.fault.LexKind.TheVariants.{Utf8, NoToken}
 use Rattle.java_lexer.specs.declared.cut.Cut.{Cut}
-use Rattle.java_lexer.specs.Lexing.{cut_of, verdict_at, line_behind, line_ends, lexed}
+use Rattle.java_lexer.specs.LineTerminators.{line_ends}
+use Rattle.java_lexer.specs.Lexing.{cut_of, verdict_at, line_behind, lexed}
 use Rattle.java_lexer.specs.Cutting.{IsCut}
 
 left : (rest : List ℕ) (tokens : List Token) (line : ℕ) (whole : Bool) → 0 < length rest
@@ -21,7 +22,7 @@ none_left rest tokens line whole e = ap (λ r. verdict_at r tokens line whole) e
 -- the line of the bad place
 line_is : (units : List ℕ) (cut : Cut) → IsCut units cut
     → line_behind (cut_of units).before ≡ 1 + cut.line_ends
-line_is units cut h = ap (λ w. 1 + line_ends false w) (sym h.before)
+line_is units cut h = ap (λ w. 1 + line_ends w) (sym h.before)
     ∙ ap (λ n. 1 + n) (sym h.counted)
 
 lexed_as : (bytes units : List ℕ) (whole : Bool) (cut : Cut) → units ≡ text_of bytes

@@ -8,6 +8,7 @@ pub mod KeywordLemmas
 pub mod NumberLemmas
 pub mod EscapeLemmas
 pub mod CutLemmas
+pub mod LineLemmas
 pub mod BlockLemmas
 pub mod LexLemmas
 pub mod FitLemmas

@@ -8,7 +8,8 @@ use Rattle.std.proofs.lemmas.List.{drop_all, drop_more}
 use Rattle.std.specs.Char.{is_digit, digit_value}
 use Rattle.std.specs.Str.Parse.{digits_value_after}
 use Rattle.java_text.specs.Source.{hex_digit_value}
-use Rattle.java_lexer.specs.Numbers.{digits_among, small, number_of, lengthened, with_unit}
+use Rattle.java_lexer.specs.Numbers.{digits_among, small, number_of}
+use Rattle.java_lexer.specs.Digits.{lengthened, with_unit}
 
 -- the number that these units write behind a number
 abbrev pub number_behind : ℕ → ℕ → List ℕ → ℕ

@@ -44,12 +44,10 @@ pub data Read : Type 0 where
 -- Tail: what follows a digit in a run of digits: digits and underscores, of which the last is no
 --   underscore (JLS 3.10.1); the flag says that an underscore stands right before.
 -- StringTail: the characters of a string up to its closing quotation mark (JLS 3.10.5); the flag
--- says
---   that an escape has begun.
+--   says that an escape has begun.
 -- BlockTail: the rest of a text block (JLS 3.10.6), behind what has been read of it.
 -- CommentTail: the rest of a traditional comment (JLS 3.7), which ends at its first `*/`; the flag
--- says
---   that an asterisk stands right before.
+--   says that an asterisk stands right before.
 pub data Item : Type 0 where
   One : Units → Item
   Maybe : Units → Item

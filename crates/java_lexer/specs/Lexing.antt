@@ -1,28 +1,19 @@
 -- The tokens of a text, and of the bytes of a source.
-use Rattle.std.specs.Prelude.{ℕ, zero, suc, ◌+◌, Bool, false, ◌&&◌, ◌||◌, not, ◌==◌, List, []}
-use Rattle.std.specs.Prelude.{◌∷◌, ◌++◌, length, take, drop, Option, Some, None, Result, Ok, Err}
-use Rattle.std.specs.Prelude.{if◌then◌else◌}
+use Rattle.std.specs.Prelude.{ℕ, zero, suc, ◌+◌, Bool, List, [], ◌∷◌, ◌++◌, length, take, drop}
+use Rattle.std.specs.Prelude.{Option, Some, None, Result, Ok, Err, if◌then◌else◌}
 use Rattle.java_token.specs.declared.token.Token.{Token}
 use Rattle.java_token.specs.declared.token.TokenKind.{TokenKind}
-use Rattle.java_text.specs.declared.character.TheConstants.{CARRIAGE_RETURN, LINE_FEED}
 use Rattle.java_text.specs.Source.{text_of, is_all_utf8}
 use Rattle.java_lexer.specs.declared.kind.Kind.{Kind}
 use Rattle.java_lexer.specs.declared.fault.LexFault.{LexFault}
 use Rattle.java_lexer.specs.declared.fault.LexKind.TheVariants.{Utf8, NoToken}
+use Rattle.java_lexer.specs.LineTerminators.{line_ends}
 use Rattle.java_lexer.specs.Pieces.{piece_at}
 use Rattle.java_lexer.specs.Tokens.{token_of}
 
--- how many line terminators end in the units (JLS 3.4): LF, CR, and CR LF as one; the flag says
--- that a CR stands right before them
-unfoldable pub line_ends : Bool → List ℕ → ℕ
-line_ends after_return [] = 0
-line_ends after_return (c ∷ units) =
-    (if c == CARRIAGE_RETURN || (c == LINE_FEED && not after_return) then 1 else 0) + line_ends
-    (c == CARRIAGE_RETURN) units
-
--- the line of the place behind these units
+-- the line of the place behind these units: lines are numbered from 1
 abbrev pub line_behind : List ℕ → ℕ
-line_behind before = 1 + line_ends false before
+line_behind before = 1 + line_ends before
 
 -- How far a text can be cut into longest pieces: the tokens among them with their lines, what was
 -- cut, and what is left.

@@ -5,6 +5,8 @@ pub mod Machine
 pub mod Keywords
 pub mod Escapes
 pub mod Numbers
+pub mod Digits
+pub mod LineTerminators
 pub mod Blocks
 pub mod Tokens
 pub mod Lexing

@@ -1,10 +1,9 @@
 -- What numbers stand for (JLS 3.10.1, 3.10.2).
-use Rattle.std.specs.Prelude.{ℕ, ◌+◌, ◌*◌, ◌-◌, ◌^◌, Bool, false, ◌||◌, not, ◌==◌, nat_lt, List}
+use Rattle.std.specs.Prelude.{ℕ, ◌-◌, ◌^◌, Bool, false, ◌||◌, not, ◌==◌, nat_lt, List}
 use Rattle.std.specs.Prelude.{[], ◌∷◌, codes, slice_index, length, drop, filter, Option, Some}
 use Rattle.std.specs.Prelude.{None, if◌then◌else◌}
 use Rattle.std.specs.Char.{is_digit}
 use Rattle.std.specs.Str.Parse.{digits_value}
-use Rattle.java_text.specs.Source.{hex_digit_value}
 use Rattle.java_token.specs.declared.token.LexLit.{LexLit}
 use Rattle.java_token.specs.declared.token.LexLit.TheVariants.{Int, Real}
 
@@ -51,14 +50,3 @@ integer_of units =
 -- a suffix F or f makes it float, and without it it is double
 abbrev pub real_of : List ℕ → LexLit
 real_of units = Real (not (is_among (codes "fF") (last units)))
-
--- ---- what private functions do that read a number: only their contracts cite it
-
--- the number with one more digit, if there is one
-abbrev pub lengthened : ℕ → ℕ → Option ℕ → ℕ
-lengthened base n None = n
-lengthened base n (Some digit) = n * base + digit
-
--- the number with the digit that a unit is, if it is one
-abbrev pub with_unit : ℕ → ℕ → ℕ → ℕ
-with_unit base n c = lengthened base n (hex_digit_value c)

@@ -1,10 +1,13 @@
 //! Text blocks (JLS 3.10.6).
-ghost use Rattle.std.specs.Prelude.{◌≡◌, ◌≤◌, ◌+◌, ◌-◌, ◌==◌, ◌∷◌, ◌++◌, ℕ, List, IfOk, length};
-ghost use Rattle.std.specs.Prelude.{take, drop, min, false, if◌then◌else◌};
+ghost use Rattle.std.specs.Prelude.{◌≡◌, ◌<◌, ◌≤◌, ◌+◌, ◌-◌, ◌++◌, IfOk, OnOk, length, take};
+ghost use Rattle.std.specs.Prelude.{drop};
+ghost use Rattle.std.specs.List.{position_or_len, before_first, after_first};
 ghost use Rattle.java_names.specs.ModifiedUtf8.{modified_utf8 as modified};
+ghost use Rattle.java_lexer.specs.LineTerminators as terminators;
 ghost use Rattle.java_lexer.specs.Blocks as spec;
 
 use crate::escape::unescape;
+use crate::units::at;
 use hdr_core::{Memory, Text};
 use java_names::modified_utf8;
 use java_text::{CARRIAGE_RETURN, LINE_FEED, is_white};
@@ -14,40 +17,48 @@ use std::alloc::Global;
 pub fn block_text(alloc: Global, units: &[u16]) -> Result<Text, Memory>
     ensures { IfOk result (λ text. text ≡ modified (spec.block_units units.now)) }
 {
-    let unified = unify(alloc, units)?;
-    let content = without_quotes(behind_line(unified.as_slice()));
+    let normal = normalize(alloc, units)?;
+    let content = without_quotes(behind_line(normal.as_slice()));
     let stripped = strip(alloc, content, margin(content))?;
     let plain = unescape(alloc, stripped.as_slice())?;
     modified_utf8(alloc, plain.as_slice())
 }
 
-/// The units with each line terminator as a line feed.
-fn unify(alloc: Global, units: &[u16]) -> Result<Vec<u16>, Memory>
-    ensures { IfOk result (λ unified. unified.items ≡ spec.unified_from false units.now) }
+/// The units with each line terminator normalized to a line feed.
+fn normalize(alloc: Global, units: &[u16]) -> Result<Vec<u16>, Memory>
+    ensures { IfOk result (λ normal. normal.items ≡ terminators.normalized units.now) }
 {
-    let mut unified = Vec::with_capacity(alloc, units.len())?;
-    let mut after_return = false;
-    for unit in units {
-        after_return = push_unified(&mut unified, *unit, after_return)?;
+    let mut normal = Vec::with_capacity(alloc, units.len())?;
+    for index in 0..units.len() {
+        push_normalized(&mut normal, units, index)?;
     }
-    Ok(unified)
+    Ok(normal)
 }
 
-/// Pushes the unit, unless it is the second of a line terminator, and says whether it is a CR.
-fn push_unified(unified: &mut Vec<u16>, unit: u16, after_return: bool) -> Result<bool, Memory>
-    ensures { IfOk result
-        (λ after. (rest : List ℕ) → unified.new.items ++ spec.unified_from after rest
-        ≡ unified.old.items ++ spec.unified_from after_return (unit ∷ rest)) }
+/// Pushes the unit at a place, unless it is the CR of a CR LF.
+fn push_normalized(normal: &mut Vec<u16>, units: &[u16], index: usize) -> Result<(), Memory>
+    requires { index < length units.now }
+    ensures { OnOk result
+        (normal.new.items ++ terminators.normalized (drop (index + 1) units.now)
+        ≡ normal.old.items ++ terminators.normalized (drop index units.now)) }
 {
-    if unit == LINE_FEED && after_return {
-        return Ok(false);
+    if is_pair_at(units, index) {
+        return Ok(());
     }
-    unified.push(unified_unit(unit))?;
-    Ok(unit == CARRIAGE_RETURN)
+    normal.push(without_return(units[index]))?;
+    Ok(())
 }
 
-fn unified_unit(unit: u16) -> u16
-    ensures { result ≡ (if unit == CARRIAGE_RETURN then LINE_FEED else unit) }
+/// CR LF stands at a place.
+fn is_pair_at(units: &[u16], index: usize) -> bool
+    requires { index < length units.now }
+    ensures { result ≡ terminators.begins_with_pair (drop index units.now) }
+{
+    units[index] == CARRIAGE_RETURN && at(units, index + 1) == LINE_FEED
+}
+
+fn without_return(unit: u16) -> u16
+    ensures { result ≡ terminators.without_return unit }
 {
     if unit == CARRIAGE_RETURN {
         LINE_FEED
@@ -58,14 +69,14 @@ fn unified_unit(unit: u16) -> u16
 
 /// What stands behind the first line feed.
 fn behind_line(units: &[u16]) -> &[u16]
-    ensures { result.now ≡ spec.behind_line units.now }
+    ensures { result.now ≡ after_first terminators.is_line_feed units.now }
 {
-    for (index, unit) in units.iter().enumerate() {
-        if *unit == LINE_FEED {
-            return &units[index + 1..];
-        }
+    let length = line_length(units);
+    if length < units.len() {
+        &units[length + 1..]
+    } else {
+        &units[..0]
     }
-    &units[..0]
 }
 
 /// Without the closing quotation marks.
@@ -78,9 +89,9 @@ fn without_quotes(inner: &[u16]) -> &[u16]
 /// The line that begins at a place.
 fn line_at(content: &[u16], at: usize) -> &[u16]
     requires { at ≤ length content.now }
-    ensures line { result.now
-        ≡ take (spec.line_length (drop at content.now)) (drop at content.now) }
-    ensures length { length result.now ≡ spec.line_length (drop at content.now) }
+    ensures line { result.now ≡ before_first terminators.is_line_feed (drop at content.now) }
+    ensures length { length result.now
+        ≡ position_or_len terminators.is_line_feed (drop at content.now) }
     ensures within { at + length result.now ≤ length content.now }
 {
     let rest = &content[at..];
@@ -89,15 +100,21 @@ fn line_at(content: &[u16], at: usize) -> &[u16]
 
 /// How many units the first line has.
 fn line_length(units: &[u16]) -> usize
-    ensures value { result ≡ spec.line_length units.now }
+    ensures value { result ≡ position_or_len terminators.is_line_feed units.now }
     ensures within { result ≤ length units.now }
 {
-    for (index, unit) in units.iter().enumerate() {
-        if *unit == LINE_FEED {
-            return index;
-        }
-    }
-    units.len()
+    units.iter().take_while(|unit| **unit != LINE_FEED).count()
+}
+
+fn last_line(content: &[u16]) -> &[u16]
+    ensures { result.now ≡ spec.last_line content.now }
+{
+    let length = content
+        .iter()
+        .rev()
+        .take_while(|unit| **unit != LINE_FEED)
+        .count();
+    &content[content.len() - length..]
 }
 
 fn is_blank(line: &[u16]) -> bool
@@ -114,37 +131,20 @@ fn indentation(line: &[u16]) -> usize
 
 /// The least indentation of the lines that count.
 fn margin(content: &[u16]) -> usize
-    ensures { result ≡ spec.margin (length content.now) (spec.lines content.now) }
+    ensures { result ≡ spec.margin content.now }
 {
-    let mut bound = content.len();
-    let mut at = 0;
-    'lines: loop {
-        let line = line_at(content, at);
-        let end = at + line.len();
-        if end == content.len() {
-            return bound.min(indentation(line));
-        }
-        bound = bound_by(bound, line);
-        at = end + 1;
-    }
-}
-
-/// The bound, or the indentation of the line if it is less and the line is not blank.
-fn bound_by(bound: usize, line: &[u16]) -> usize
-    ensures { result
-        ≡ (if spec.is_blank line.now then bound else min bound (spec.indentation line.now)) }
-{
-    if is_blank(line) {
-        bound
-    } else {
-        bound.min(indentation(line))
-    }
+    content
+        .split(|unit| *unit == LINE_FEED)
+        .filter(|line| !is_blank(line))
+        .map(|line| indentation(line))
+        .fold(indentation(last_line(content)), |least, width| {
+            least.min(width)
+        })
 }
 
 /// The lines without their margin and their trailing white space.
 fn strip(alloc: Global, content: &[u16], width: usize) -> Result<Vec<u16>, Memory>
-    ensures { IfOk result (λ stripped. stripped.items
-        ≡ spec.stripped width (spec.lines content.now)) }
+    ensures { IfOk result (λ stripped. stripped.items ≡ spec.stripped width content.now) }
 {
     let mut stripped = Vec::with_capacity(alloc, content.len())?;
     let mut at = 0;
@@ -162,7 +162,7 @@ fn strip(alloc: Global, content: &[u16], width: usize) -> Result<Vec<u16>, Memor
 
 /// The line without its margin and its trailing white space.
 fn kept(line: &[u16], width: usize) -> &[u16]
-    ensures { result.now ≡ spec.trimmed (drop width line.now) }
+    ensures { result.now ≡ spec.kept width line.now }
 {
     if width <= line.len() {
         trim(&line[width..])
@@ -175,9 +175,10 @@ fn kept(line: &[u16], width: usize) -> &[u16]
 fn trim(line: &[u16]) -> &[u16]
     ensures { result.now ≡ spec.trimmed line.now }
 {
-    let mut end = line.len();
-    while end > 0 && is_white(line[end - 1]) {
-        end -= 1;
-    }
-    &line[..end]
+    let white = line
+        .iter()
+        .rev()
+        .take_while(|unit| is_white(**unit))
+        .count();
+    &line[..line.len() - white]
 }

@@ -1,9 +1,8 @@
 //! The pieces of a text (JLS 3.2, 3.4).
 ghost use Rattle.std.specs.Prelude.{◌≡◌, ◌≤◌, ◌<◌, ◌+◌, ◌^◌, ◌-◌, ◌++◌, ◌==◌, ◌||◌, ◌&&◌, not};
 ghost use Rattle.std.specs.Prelude.{if◌then◌else◌, IfOk, OnOk, length, take, drop};
-ghost use Rattle.java_lexer.specs.Lexing.{line_ends};
 ghost use Rattle.java_lexer.specs.Tokens.{token_of};
-ghost use Rattle.java_lexer.specs.Cutting.{IsCut, ends_in_return, tokens_at};
+ghost use Rattle.java_lexer.specs.Cutting.{IsCut, ends_begun, ends_in_return, tokens_at};
 
 use crate::kind::Kind;
 use crate::state::piece_at;
@@ -92,7 +91,7 @@ impl Place {
     /// The place behind these units.
     fn behind(self, units: &[u16]) -> Place
         requires { self.line_ends + length units.now < 2 ^ 64 }
-        ensures ends { result.line_ends ≡ self.line_ends + line_ends self.after_return units.now }
+        ensures ends { result.line_ends ≡ self.line_ends + ends_begun self.after_return units.now }
         ensures last { result.after_return ≡ ends_in_return self.after_return units.now }
         ensures bound { result.line_ends ≤ self.line_ends + length units.now }
     {

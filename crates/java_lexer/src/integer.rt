@@ -2,6 +2,7 @@
 ghost use Rattle.std.specs.Prelude.{◌≡◌, ◌≤◌, ◌<◌, ◌^◌};
 ghost use Rattle.std.specs.Option.{SomeIff};
 ghost use Rattle.java_lexer.specs.Numbers as spec;
+ghost use Rattle.java_lexer.specs.Digits.{with_unit as number_with_unit};
 
 use crate::units::at;
 use java_text::hex_digit_value;
@@ -90,8 +91,8 @@ fn number(radix: u64, units: &[u16]) -> Option<u64>
 
 /// The number with the digit that a unit is, if it is one, and if 64 bits hold it.
 fn with_unit(number: u64, radix: u64, unit: u16) -> Option<u64>
-    ensures { SomeIff result (spec.with_unit radix number unit < 2 ^ 64)
-        (spec.with_unit radix number unit) }
+    ensures { SomeIff result (number_with_unit radix number unit < 2 ^ 64)
+        (number_with_unit radix number unit) }
 {
     match hex_digit_value(unit) {
         Some(digit) => number.checked_mul(radix)?.checked_add(digit as u64),

@@ -11,7 +11,7 @@ const SOURCES: [(&str, &str); 6] = [
     ("", ""),
     ("// nothing\n/* at all */", ""),
     (
-        "package a.b;\nimport c.*;\npublic class A {\n  int x = 1_0;\n  void m() {\n    x++;\n  }\n}\n",
+        "package a.b;\nimport c.*;\npublic class A {\n int x = 1_0;\n void m() {\n  x++;\n }\n}\n",
         "package a . b ; import c . * ; public class A << int x = 10 ; void m ( ) % 5 >>",
     ),
     (

@@ -299,11 +299,15 @@ pub const BLOCKS_AND_OPERATORS: [Row; 64] = [
     ("\"\"\"\\u000ax\"\"\"", "\"x\""),
 ];
 
-pub const MORE: [Row; 26] = [
+pub const MORE: [Row; 30] = [
     ("\\u0022\"\"\nx\\u0022\"\"", "\"x\""),
     (
-        "( ) { } [ ] ; , . ... @ ::",
-        ":LeftParenthesis :RightParenthesis :LeftBrace :RightBrace :LeftBracket :RightBracket :Semicolon :Comma :Dot :Ellipsis :At :DoubleColon",
+        "( ) { }",
+        ":LeftParenthesis :RightParenthesis :LeftBrace :RightBrace",
+    ),
+    (
+        "[ ] ; , . ... @ ::",
+        ":LeftBracket :RightBracket :Semicolon :Comma :Dot :Ellipsis :At :DoubleColon",
     ),
     (
         "= > < ! ~ ? : ->",
@@ -314,12 +318,21 @@ pub const MORE: [Row; 26] = [
         ":Equal :GreaterEqual :LessEqual :NotEqual :AndAnd :OrOr :Increment :Decrement",
     ),
     (
-        "+ - * / & | ^ % << >> >>>",
-        ":Plus :Minus :Star :Slash :And :Or :Xor :Percent :ShiftLeft :ShiftRight :ShiftRightUnsigned",
+        "+ - * / & | ^ %",
+        ":Plus :Minus :Star :Slash :And :Or :Xor :Percent",
+    ),
+    ("<< >> >>>", ":ShiftLeft :ShiftRight :ShiftRightUnsigned"),
+    (
+        "+= -= *= /=",
+        ":PlusAssign :MinusAssign :StarAssign :SlashAssign",
     ),
     (
-        "+= -= *= /= &= |= ^= %= <<= >>= >>>=",
-        ":PlusAssign :MinusAssign :StarAssign :SlashAssign :AndAssign :OrAssign :XorAssign :PercentAssign :ShiftLeftAssign :ShiftRightAssign :ShiftRightUnsignedAssign",
+        "&= |= ^= %=",
+        ":AndAssign :OrAssign :XorAssign :PercentAssign",
+    ),
+    (
+        "<<= >>= >>>=",
+        ":ShiftLeftAssign :ShiftRightAssign :ShiftRightUnsignedAssign",
     ),
     ("a>>b", "a :ShiftRight b"),
     (">>>>=", ":ShiftRightUnsigned :GreaterEqual"),

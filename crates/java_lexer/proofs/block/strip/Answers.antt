@@ -1,13 +1,13 @@
 use Rattle.std.proofs.Common.{◌≡◌, ◌<◌, ◌++◌, ◌∙◌, ap, length, drop, length-drop, arith}
-use Rattle.java_lexer.specs.Blocks.{stripped, lines, line_length}
-use Rattle.java_lexer.proofs.BlockLemmas.{stripped_last, stripped_line, further}
+use Rattle.java_lexer.specs.Blocks.{stripped}
+use Rattle.java_lexer.proofs.BlockLemmas.{first_length, stripped_last, stripped_line, further}
 use Rattle.java_lexer.proofs.block.strip.Goals as goal
 
 pub returns-then-end-content : goal.returns-then-end-content
 returns-then-end-content c =
-    let whole : line_length (drop c.lines.at c.args.content.now)
-    ≡ length (drop c.lines.at c.args.content.now)
-    = omega (
+    let rest = drop c.lines.at c.args.content.now in
+    let whole : first_length rest ≡ length rest =
+    omega (
       arith,
       c.line_at-line.ensures.length,
       c.if-end-content.true,
@@ -20,9 +20,9 @@ returns-then-end-content c =
 
 pub lines-preserved : goal.lines-preserved
 lines-preserved c =
-    let more : line_length (drop c.lines.at c.args.content.now) < length
-    (drop c.lines.at c.args.content.now)
-    = omega (
+    let rest = drop c.lines.at c.args.content.now in
+    let more : first_length rest < length rest =
+    omega (
       arith,
       c.line_at-line.ensures.length,
       c.line_at-line.ensures.within,
@@ -31,7 +31,7 @@ lines-preserved c =
     ) in
     record {
       text =
-          ap (λ ls. c.push.new.self.items ++ stripped c.args.width (lines ls))
+          ap (λ units. c.push.new.self.items ++ stripped c.args.width units)
           (further _ _ _ c.args.content.now c.line_at-line.ensures.length)
           ∙ stripped_line c.args.width _ _ _ _ _ c.line_at-line.ensures.line more
           (c.in_ok-extend_from_slice.ensures.items

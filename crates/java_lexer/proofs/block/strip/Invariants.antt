@@ -1,12 +1,12 @@
 use Rattle.std.proofs.Common.{◌≡◌, ◌≤◌, ◌-◌, ◌++◌, drop, length}
-use Rattle.java_lexer.specs.Blocks.{stripped, lines}
+use Rattle.java_lexer.specs.Blocks.{stripped}
 use Rattle.java_lexer.proofs.block.strip.Given as goal
 
 -- the lines so far, and then those that are left
 abbrev pub invariant-lines : goal.invariant-lines
 invariant-lines l = record {
-  text : l.stripped.items ++ stripped l.width (lines (drop l.at l.content))
-      ≡ stripped l.width (lines l.content);
+  text : l.stripped.items ++ stripped l.width (drop l.at l.content)
+      ≡ stripped l.width l.content;
   within : l.at ≤ length l.content;
 }
 

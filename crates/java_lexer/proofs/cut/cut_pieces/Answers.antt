@@ -1,13 +1,14 @@
 use Rattle.std.proofs.Common.{◌≡◌, ◌+◌, ◌-◌, ◌∙◌, sym, ap, refl, arith, take, drop, length-drop}
 use Rattle.std.proofs.lemmas.List.{take_rest, length-take}
-use Rattle.java_lexer.specs.Lexing.{Cut, line_behind, line_ends}
-use Rattle.java_lexer.specs.Cutting.{ends_in_return}
+use Rattle.java_lexer.specs.Lexing.{Cut, line_behind}
+use Rattle.java_lexer.specs.Cutting.{ends_begun, ends_in_return}
 use Rattle.java_lexer.proofs.CutLemmas.{behind_tokens, cut_at, cut_step, cut_stops, cut_ends}
 use Rattle.java_lexer.proofs.CutLemmas.{line_ends_further, ends_in_return_further}
+use Rattle.java_lexer.proofs.LineLemmas.{all_counted}
 use Rattle.java_lexer.proofs.cut.cut_pieces.Goals as goal
 
 pub loop-at-init : goal.loop-at-init
-unfolding line_ends ends_in_return
+unfolding ends_begun ends_in_return
 loop-at-init c = record {
   whole = rw c.new-tokens.ensures.items refl;
   within = omega arith;
@@ -26,7 +27,7 @@ returns-in-None c =
       before = ap (λ (x : Cut). x.before) same;
       rest = ap (λ (x : Cut). x.rest) same;
       within = c.loop-at.invariant.within;
-      counted = c.loop-at.invariant.ends;
+      counted = c.loop-at.invariant.ends ∙ all_counted (take c.loop-at.at c.args.units.now);
       bound = c.loop-at.invariant.bound;
     }
 
@@ -37,7 +38,7 @@ loop-at-preserved c =
     let units = c.args.units.now in
     let same : at + n - at ≡ n = omega arith in
     let line : c.loop-at.place.line_ends + 1 ≡ line_behind (take at units) =
-    omega (arith, c.loop-at.invariant.ends) in
+    omega (arith, c.loop-at.invariant.ends, all_counted (take at units)) in
     let room = simp take_rest at c.in-Some.ensures.within in
     record {
       whole =
@@ -71,6 +72,6 @@ returns c =
       before = ap (λ (x : Cut). x.before) same;
       rest = ap (λ (x : Cut). x.rest) same;
       within = c.loop-at.invariant.within;
-      counted = c.loop-at.invariant.ends;
+      counted = c.loop-at.invariant.ends ∙ all_counted (take c.loop-at.at c.args.units.now);
       bound = c.loop-at.invariant.bound;
     }
