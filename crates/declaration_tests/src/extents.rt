@@ -5,7 +5,7 @@ use java_token::Token;
 use std::process::Abort;
 
 /// What stands behind a `=`: the initialiser, and the rest of the head.
-const INITIALISERS: [(&str, &str); 113] = [
+const INITIALISERS: [(&str, &str); 119] = [
     // the first comma outside brackets ends it
     ("", ""),
     ("", ", x"),
@@ -62,6 +62,10 @@ const INITIALISERS: [(&str, &str); 113] = [
     ("new A[] <B", ", C>> d"),
     ("new <A, B> <C", ", D> e"),
     ("new <A, B>> <C", ", D> e"),
+    ("new A<B, C> <D", ", E>> f"),
+    ("new A.B<C, D>> e", ", f"),
+    ("new A<B, C>.D<E, F>> g", ", h"),
+    ("new sealed.A<B, C>> d", ", e"),
     // behind a dot
     ("this.<A, B>f()", ", c"),
     ("a.<A, B>f()", ", c"),
@@ -70,6 +74,7 @@ const INITIALISERS: [(&str, &str); 113] = [
     ("x.M<A, B> f", ", c"),
     ("x.a < b, c > d", ", e"),
     ("x.a < b, c >> d", ", e"),
+    ("x.A<B, C> <D", ", E>>> f"),
     ("x.a < b[c > d, e]", ", q"),
     ("x.a < b[], c > d", ", e"),
     ("x.a < b[", ", c > d"),
@@ -99,6 +104,7 @@ const INITIALISERS: [(&str, &str); 113] = [
     ("o instanceof final final A<B", ", C> a"),
     ("o instanceof A b < c", ", d > e, x"),
     ("o instanceof A<B, C> d < e", ", f > g"),
+    ("o instanceof A<B, C> <D", ", E>> f"),
     ("o instanceof @X final A<B, C> d", ", e"),
     ("o instanceof @X final @Y A<B, C> d", ", e"),
     ("o instanceof final @X final A<B", ", C> d"),

@@ -14,10 +14,11 @@ use Rattle.java_grammar.specs.Parts.{part_of, parts}
 use Rattle.java_grammar.specs.Tests.{is_group_start}
 use Rattle.java_grammar.specs.Counts.{Place, places, bracket_depth, is_counted, takes_prefix}
 use Rattle.java_grammar.specs.Counts.{with_prefixes, is_short, ends_run, prepend, runs_of}
-use Rattle.java_grammar.specs.Counts.{begins_default, behind_default, extent_fits, values_fit}
+use Rattle.java_grammar.specs.Counts.{extent_fits, values_fit}
 use Rattle.java_grammar.specs.Counts.{inside_group, group_behind_name, elements_behind}
 use Rattle.java_grammar.specs.Extents.{name_from, group_from}
 use Rattle.java_grammar.specs.Running.{counted_on, counted_in_run, begins_prefix}
+use Rattle.java_grammar.specs.Running.{begins_default, behind_default}
 use Rattle.java_grammar.proofs.Passing.{drop_drop, drop_parts, parts_at}
 
 part_at : (ts : List Token) (i : ℕ) (t : Token) (p : Part) → i < length ts → t ≡ get_or ts i t

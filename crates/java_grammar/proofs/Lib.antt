@@ -6,3 +6,5 @@ pub mod Marking
 pub mod Operators
 pub mod Ungrouped
 pub mod Fronts
+pub mod Partners
+pub mod Defaults

@@ -7,7 +7,7 @@ use Rattle.java_grammar.specs.declared.part.Part.{Part}
 use Rattle.java_grammar.specs.Parts.{parts}
 use Rattle.std.specs.Prelude.{Bool, true, false, ◌==◌, if◌then◌else◌, Option, Some}
 use Rattle.java_grammar.specs.declared.type_arguments.Angled.{Angled}
-use Rattle.java_grammar.specs.Extents.{passing, row_from, before, continued, and_behind}
+use Rattle.java_grammar.specs.Extents.{passing, row_from, before, continued, and_behind, with_last}
 use Rattle.java_grammar.specs.Extents.{annotations_from, annotated_from, longest_from}
 use Rattle.java_grammar.specs.Extents.{arguments_at, typed_by, typed_from, type_from}
 use Rattle.java_grammar.specs.Extents.{begins_with_double_colon, referred_by, referred_from}
@@ -81,6 +81,15 @@ goes_on g ts k (suc n) m first some second =
 pub goes_not_on : (g : List Part → ℕ) (ts : List Token) (k n : ℕ) → n ≡ k → n ≡ 0
     → 0 ≡ continued k g (parts ts)
 goes_not_on g ts k n first none = ap (λ x. continued x g (parts ts)) (sym none ∙ first)
+
+pub goes_on_from_last : (g : List Part → ℕ) (ts : List Token) (k n m : ℕ) → n ≡ k → 0 < n
+    → m ≡ g (parts (take (length ts - (n - 1)) (drop (n - 1) ts)))
+    → n + m ≡ with_last k g (parts ts)
+goes_on_from_last g ts k zero m first some second = absurd (omega arith)
+goes_on_from_last g ts k (suc n) m first some second =
+    let less : suc n - 1 ≡ n = omega arith in
+    let last = second ∙ ap (λ i. g (parts (take (length ts - i) (drop i ts)))) less in
+    ap (λ x. suc n + x) (rest_of g ts n m last) ∙ ap (λ x. with_last x g (parts ts)) first
 
 pub annotated : (f : List Part → ℕ) (ts : List Token) (n m r : ℕ) → n ≡ annotations_from (parts ts)
     → m ≡ f (parts (take (length ts - n) (drop n ts))) → r ≡ before n m

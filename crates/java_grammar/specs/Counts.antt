@@ -4,7 +4,9 @@
 -- They are counts of all tokens, also of those that spell nothing.
 use Rattle.std.specs.Prelude.{ℕ, zero, suc, ◌+◌, ◌-◌, ◌==◌, Bool, true, false, ◌&&◌, ◌||◌, not}
 use Rattle.std.specs.Prelude.{nat_le, if◌then◌else◌, List, [], ◌∷◌, map, take, drop, count_by}
-use Rattle.std.specs.List.{list_all, scan, zip}
+use Rattle.std.specs.Prelude.{Option, Some, None}
+use Rattle.std.specs.List.{list_all, list_any, scan, zip}
+use Rattle.segments.specs.Places.{behind_item}
 use Rattle.java_grammar.specs.declared.part.Part.{Part}
 use Rattle.java_grammar.specs.declared.part.Part.TheVariants as part
 use Rattle.java_grammar.specs.declared.part.ModifierWord.TheVariants as modifier
@@ -144,9 +146,12 @@ is_plain_part _ = false
 abbrev pub is_call : Bool → Part → Bool
 is_call behind_word p = behind_word && is_group_start p
 
+-- each part, with whether it stands right behind a word
+abbrev pub with_words : Bool → List Part → List (Bool × Part)
+with_words behind_word ps = zip (behind_word ∷ map is_word ps) ps
+
 abbrev pub calls_nothing : Bool → List Part → Bool
-calls_nothing behind_word [] = true
-calls_nothing behind_word (p ∷ ps) = not (is_call behind_word p) && calls_nothing (is_word p) ps
+calls_nothing behind_word ps = list_all (λ at. not (is_call at.0 at.1)) (with_words behind_word ps)
 
 -- the initialiser may be a constant expression
 unfoldable pub is_plain : List Part → Bool
@@ -209,18 +214,26 @@ abbrev pub is_default : Part → Bool
 is_default (part.Modifier modifier.Default) = true
 is_default _ = false
 
-abbrev pub begins_default : ℕ → Part → Bool → Bool
-begins_default depth p behind_group = is_default p && ((depth == 0) && behind_group)
+-- a `default` outside brackets that has a group before it (JLS 9.6.2)
+abbrev pub begins_value : List Place → Place → Bool
+begins_value before at =
+    is_default at.part && ((at.depth == 0) && list_any (λ b. is_group_start b.part) before)
 
--- behind the first `default` outside brackets that has a group before it (JLS 9.6.2)
-abbrev pub behind_default : Bool → List Place → List Part
-behind_default behind_group [] = []
-behind_default behind_group (at ∷ others) =
-    if begins_default at.depth at.part behind_group then at.behind
-    else behind_default (behind_group || is_group_start at.part) others
+-- the first one of which this is true, by what stands before it
+abbrev pub first_of : {X : Type 0} → (List X → X → Bool) → List X → Option X
+first_of is [] = None
+first_of is (x ∷ xs) = if is [] x then Some x else first_of (behind_item is x) xs
+
+abbrev pub behind_place : Option Place → List Part
+behind_place None = []
+behind_place (Some at) = at.behind
+
+-- behind the first such `default`
+unfoldable pub default_value : List Place → List Part
+default_value places = behind_place (first_of begins_value places)
 
 abbrev pub default_fits : Bool → List Part → Bool
-default_fits in_head ps = values_fit in_head (behind_default false (bare in_head ps))
+default_fits in_head ps = values_fit in_head (default_value (bare in_head ps))
 
 -- ---- all of them
 

@@ -22,7 +22,7 @@ use Rattle.java_grammar.specs.declared.part.Part.TheVariants as part
 use Rattle.java_grammar.specs.declared.part.ModifierWord.TheVariants as modifier
 use Rattle.java_grammar.specs.declared.part.Pair.TheVariants as pair
 use Rattle.java_grammar.specs.Parts.{part_of, parts}
-use Rattle.java_grammar.specs.Extents.{partner_from}
+use Rattle.java_grammar.specs.Extents.{partner_of}
 use Rattle.java_grammar.specs.Counts.{head_fits}
 use Rattle.java_grammar.specs.Marks.{Mark, Single, Semi, Line, marks, head_marks, segment_marks}
 use Rattle.java_grammar.specs.Marks.{EndLayer}
@@ -140,7 +140,7 @@ pub record Arguments (text : List Mark) : Type 0 where
   pub inside : List Token
   pub whole : text ≡ Single opening ∷ marks inside
   pub opens : part_of opening ≡ part.Opening pair.Parentheses
-  pub closes : partner_from 0 (parts inside) ≡ Some (length inside)
+  pub closes : partner_of (parts inside) ≡ Some (length inside)
 
 abbrev pub ClassBody : Bool → Line
 ClassBody true = SkippedGroup

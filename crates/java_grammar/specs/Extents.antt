@@ -3,9 +3,10 @@
 -- the type behind it, a type before `::`, or a single token. All are functions of the parts of a
 -- list of tokens, those behind the `=`; each answers how many parts it has at the front, and 0
 -- where it isn't there.
-use Rattle.std.specs.Prelude.{ℕ, zero, suc, ◌+◌, ◌-◌, ◌==◌, Bool, false, ◌&&◌, nat_lt}
+use Rattle.std.specs.Prelude.{ℕ, zero, suc, ◌+◌, ◌-◌, ◌==◌, Bool, false, ◌&&◌, nat_lt, count_by}
 use Rattle.std.specs.Prelude.{if◌then◌else◌, List, [], ◌∷◌, Option, Some, None}
 use Rattle.std.proofs.Common.{drop}
+use Rattle.segments.specs.Places.{behind_item}
 use Rattle.java_grammar.specs.declared.part.Part.{Part}
 use Rattle.java_grammar.specs.declared.type_arguments.Angled.{Angled}
 use Rattle.java_grammar.specs.declared.type_arguments.AngleStep.{AngleStep}
@@ -49,6 +50,11 @@ abbrev pub continued : ℕ → (List Part → ℕ) → List Part → ℕ
 continued zero other ps = 0
 continued (suc n) other ps = suc n + other (drop (suc n) ps)
 
+-- the one, and where it is there, what stands behind its last part, by that part
+abbrev pub with_last : ℕ → (List Part → ℕ) → List Part → ℕ
+with_last zero other ps = 0
+with_last (suc n) other ps = suc n + other (drop n ps)
+
 -- so many more before something, where that is there
 abbrev pub before : ℕ → ℕ → ℕ
 before n zero = 0
@@ -56,24 +62,25 @@ before n (suc m) = n + suc m
 
 -- ---- groups
 
--- at a closing bracket, where `inside` others are open
-abbrev pub partner_if_closed : ℕ → Option ℕ → Option ℕ
-partner_if_closed inside behind = if inside == 0 then Some 1 else one_more behind
+-- how many there are up to the first one of which this is true, by what stands before it, itself
+-- counted
+abbrev pub up_to_first : {X : Type 0} → (List X → X → Bool) → List X → Option ℕ
+up_to_first is [] = None
+up_to_first is (x ∷ xs) = if is [] x then Some 1 else one_more (up_to_first (behind_item is x) xs)
 
--- how many parts stand up to the partner of a bracket, itself counted, where `inside` more
--- brackets are open: the first closing one with as many opening as closing ones between the two,
--- of whatever kind
-abbrev pub partner_from : ℕ → List Part → Option ℕ
-partner_from inside [] = None
-partner_from inside (p ∷ ps) =
-    if is_opening p then one_more (partner_from (inside + 1) ps)
-    else (if is_closing p then partner_if_closed inside (partner_from (inside - 1) ps)
-    else one_more (partner_from inside ps))
+-- a closing bracket behind these, as many opening as closing ones among them, of whatever kind
+abbrev pub is_partner : List Part → Part → Bool
+is_partner between p =
+    is_closing p && (count_by is_opening between == count_by is_closing between)
+
+-- behind an opening bracket: how many parts stand up to its partner, itself counted
+unfoldable pub partner_of : List Part → Option ℕ
+partner_of ps = up_to_first is_partner ps
 
 -- how many parts behind an opening bracket are passed with it: up to its partner, and none where
 -- it has none
 unfoldable pub group_from : List Part → ℕ
-group_from ps = or_none (partner_from 0 ps)
+group_from ps = or_none (partner_of ps)
 
 -- ---- annotations
 
@@ -92,7 +99,7 @@ name_from (p ∷ q ∷ ps) = if is_dot p && is_word q then suc (suc (name_from p
 -- the group of an annotation's elements, unread (JLS 9.7.1)
 abbrev pub elements_from : List Part → ℕ
 elements_from [] = 0
-elements_from (p ∷ ps) = if is_group_start p then or_none (one_more (partner_from 0 ps)) else 0
+elements_from (p ∷ ps) = if is_group_start p then or_none (one_more (partner_of ps)) else 0
 
 abbrev pub name_and_elements_from : List Part → ℕ
 name_and_elements_from ps = name_from ps + elements_from (drop (name_from ps) ps)
@@ -226,12 +233,13 @@ type_from ps = continued (base_from ps) (row_of dimension_at) ps
 
 -- the longest type behind `new` and the like, but for its dimensions, which are pieces of their
 -- own: here the type arguments of its last word may end inside a token, and then nothing of it
--- follows
+-- follows. A type that ends with type arguments has no others behind them
 abbrev pub split_behind : List Part → ℕ
-split_behind ps = split_arguments (arguments_at ps)
+split_behind [] = 0
+split_behind (p ∷ ps) = if is_word p then split_arguments (arguments_at ps) else 0
 
 abbrev pub split_named_from : List Part → ℕ
-split_named_from ps = continued (named_from ps) split_behind ps
+split_named_from ps = with_last (named_from ps) split_behind ps
 
 unfoldable pub longest_from : List Part → ℕ
 longest_from [] = 0

@@ -78,7 +78,6 @@ pub record WordOn (line : ℕ) (name : List ℕ) (text : List Mark) : Type 0 whe
 abbrev pub ClosingAngle : Line
 ClosingAngle text = (more : Bool) × (text ≡ Angle more ∷ [])
 
--- a token that is so many closing angles
 abbrev pub Comma : Line
 Comma = Is part.Comma
 

@@ -1,7 +1,8 @@
 //! Groups in brackets, names and annotations, passed unread.
 ghost use Rattle.std.specs.Prelude.{◌≡◌, ◌≤◌, ◌<◌, ◌+◌, ◌^◌, length, IfSome};
 ghost use Rattle.java_grammar.specs.Parts.{parts};
-ghost use Rattle.java_grammar.specs.Extents.{partner_from, group_from, is_further_word};
+ghost use Rattle.java_grammar.specs.Running.{partner_from};
+ghost use Rattle.java_grammar.specs.Extents.{partner_of, group_from, is_further_word};
 ghost use Rattle.java_grammar.specs.Extents.{name_from, elements_from, name_and_elements_from};
 ghost use Rattle.java_grammar.specs.Extents.{annotation_from, before, annotation_at};
 ghost use Rattle.java_grammar.specs.Extents.{annotations_from};
@@ -9,9 +10,8 @@ ghost use Rattle.java_grammar.specs.Extents.{annotations_from};
 use crate::part::Part;
 use java_token::Token;
 
-/// How many tokens stand up to the partner of the bracket that stands before these, the partner
-/// counted.
-pub fn partner(tokens: &[Token]) -> Option<usize>
+/// The place of the partner of the bracket before these tokens, found by how many are open.
+fn counted_partner(tokens: &[Token]) -> Option<usize>
     ensures counted { result ≡ partner_from 0 (parts tokens.now) }
     ensures within { IfSome result (λ count. count ≤ length tokens.now) }
 {
@@ -28,6 +28,16 @@ pub fn partner(tokens: &[Token]) -> Option<usize>
         }
     }
     None
+}
+
+/// How many tokens stand up to the partner of the bracket that stands before these, the partner
+/// counted.
+#[tactic(auto, using(crate::proofs::Partners::partner_is_counted))]
+pub fn partner(tokens: &[Token]) -> Option<usize>
+    ensures counted { result ≡ partner_of (parts tokens.now) }
+    ensures within { IfSome result (λ count. count ≤ length tokens.now) }
+{
+    counted_partner(tokens)
 }
 
 /// How many of these tokens are passed with the opening bracket before them.

@@ -10,9 +10,10 @@ ghost use Rattle.java_grammar.specs.Counts.{is_plain, is_counted, count_of, is_s
 ghost use Rattle.java_grammar.specs.Counts.{extent_fits, extents_fit, ends_run, takes_prefix};
 ghost use Rattle.java_grammar.specs.Counts.{values_fit, inside_group, group_behind_name};
 ghost use Rattle.java_grammar.specs.Counts.{elements_inside, elements_behind, annotations_fit};
-ghost use Rattle.java_grammar.specs.Counts.{begins_default, behind_default, default_fits};
+ghost use Rattle.java_grammar.specs.Counts.{default_value, default_fits};
 ghost use Rattle.java_grammar.specs.Counts.{head_fits, tokens_fit, expression_fits};
 ghost use Rattle.java_grammar.specs.Running.{counted_on, counted_in_run, begins_prefix};
+ghost use Rattle.java_grammar.specs.Running.{begins_default, behind_default};
 
 use crate::brackets::{annotation_length, group_length, name_length};
 use crate::extent::extent_length;
@@ -323,7 +324,7 @@ fn has_group(behind_group: bool, part: Part) -> bool
     behind_group || part.is_group_start()
 }
 
-/// What stands behind the `default` of a method.
+/// What stands behind the `default` of a method, found by what was met before.
 fn behind_default(in_head: bool, tokens: &[Token]) -> &[Token]
     ensures { parts result.now ≡ behind_default false (bare in_head (parts tokens.now)) }
 {
@@ -343,11 +344,19 @@ fn behind_default(in_head: bool, tokens: &[Token]) -> &[Token]
     &tokens[..0]
 }
 
+/// What stands behind the `default` of a method.
+#[tactic(auto, using(crate::proofs::Defaults::default_is_met))]
+fn default_value(in_head: bool, tokens: &[Token]) -> &[Token]
+    ensures { parts result.now ≡ default_value (bare in_head (parts tokens.now)) }
+{
+    behind_default(in_head, tokens)
+}
+
 /// The value behind the `default` of a method is short.
 fn default_fits(in_head: bool, tokens: &[Token]) -> bool
     ensures { result ≡ default_fits in_head (parts tokens.now) }
 {
-    values_fit(in_head, behind_default(in_head, tokens))
+    values_fit(in_head, default_value(in_head, tokens))
 }
 
 /// The head of a segment passes none of the counts: at most 64 brackets and 64 angles are open at

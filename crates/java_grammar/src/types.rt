@@ -1,10 +1,10 @@
 //! Types in an initialiser, their type arguments and annotations unread (JLS 4.3, 10.1).
-ghost use Rattle.std.specs.Prelude.{◌≡◌, ◌≤◌, length};
+ghost use Rattle.std.specs.Prelude.{◌≡◌, ◌≤◌, ◌-◌, length};
 ghost use Rattle.java_grammar.specs.Parts.{parts};
 ghost use Rattle.java_grammar.specs.Extents.{row_of, annotated_from, word_from, further_at};
 ghost use Rattle.java_grammar.specs.Extents.{sealed_from, first_from, named_from, brackets_at};
 ghost use Rattle.java_grammar.specs.Extents.{dimension_at, base_from, type_from};
-ghost use Rattle.java_grammar.specs.Extents.{split_named_from, longest_from};
+ghost use Rattle.java_grammar.specs.Extents.{split_behind, split_named_from, longest_from};
 
 use crate::brackets::{annotations_length, before};
 use crate::part::Part;
@@ -153,6 +153,18 @@ pub fn type_length(tokens: &[Token]) -> usize
     base + dimensions_length(&tokens[base..])
 }
 
+/// What stands behind the last token of a name: where that is a word, type arguments that end
+/// inside a token.
+fn split_length(last: &[Token]) -> usize
+    ensures counted { result ≡ split_behind (parts last.now) }
+    ensures within { result ≤ length last.now - 1 }
+{
+    match last {
+        [word, behind @ ..] if Part::of(word).is_word() => split_arguments_length(behind),
+        _ => 0,
+    }
+}
+
 fn split_named_length(tokens: &[Token]) -> usize
     ensures counted { result ≡ split_named_from (parts tokens.now) }
     ensures within { result ≤ length tokens.now }
@@ -161,7 +173,7 @@ fn split_named_length(tokens: &[Token]) -> usize
     if named == 0 {
         return 0;
     }
-    named + split_arguments_length(&tokens[named..])
+    named + split_length(&tokens[named - 1..])
 }
 
 /// How many tokens the longest type at the front has, but for its dimensions; its last type

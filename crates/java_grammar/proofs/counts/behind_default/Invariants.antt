@@ -1,6 +1,7 @@
 use Rattle.std.proofs.Common.{◌≡◌, ◌≤◌, ◌-◌, length, drop, false}
 use Rattle.java_grammar.specs.Parts.{parts}
-use Rattle.java_grammar.specs.Counts.{places, unread_behind, behind_default}
+use Rattle.java_grammar.specs.Counts.{places, unread_behind}
+use Rattle.java_grammar.specs.Running.{behind_default}
 use Rattle.java_grammar.proofs.counts.behind_default.Given as goal
 
 abbrev pub invariant-loop-at : goal.invariant-loop-at

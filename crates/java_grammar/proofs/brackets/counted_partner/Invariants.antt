@@ -1,8 +1,8 @@
 use Rattle.std.proofs.Common.{◌≡◌, ◌≤◌, drop}
 use Rattle.java_grammar.specs.Parts.{parts}
-use Rattle.java_grammar.specs.Extents.{partner_from}
+use Rattle.java_grammar.specs.Running.{partner_from}
 use Rattle.java_grammar.proofs.Passing.{later}
-use Rattle.java_grammar.proofs.brackets.partner.Given as goal
+use Rattle.java_grammar.proofs.brackets.counted_partner.Given as goal
 
 abbrev pub invariant-loop-at : goal.invariant-loop-at
 invariant-loop-at l = record {
