@@ -1,42 +1,76 @@
--- The grammar of class files (JVMS 4.1), over a free pool: its entries may stand in any order, be unused or repeated.
--- For now every attribute is Code, which no description keeps, and texts, descriptors and entries are those of IsPlain, is_field_descriptor, is_method_descriptor and Entry.
-use Rattle.std.specs.Prelude.{◌≡◌, ℕ, ◌+◌, ◌<◌, ◌≤◌, ◌^◌, ◌&&◌, nat_le, Bool, true, List, [], ◌∷◌, ◌++◌, length, map, codes, Option, Some, None}
-use Rattle.std.specs.List.{flat_map, list_all, AllByRecursion, IsDistinct}
+-- The grammar of class files (JVMS 4.1), over a free pool: its entries may stand in any order, be
+-- unused or repeated.
+-- For now no attribute that a description keeps is spelled; every other one is passed over.
+use Rattle.std.specs.Prelude.{◌≡◌, ℕ, ◌+◌, ◌<◌, ◌≤◌, ◌^◌, ◌==◌, ◌&&◌, Bool, true, false, bit_and}
+use Rattle.std.specs.Prelude.{List, [], ◌∷◌, ◌++◌, length, map, codes, Option, Some, None}
+use Rattle.std.specs.Prelude.{if◌then◌else◌}
+use Rattle.std.specs.List.{flat_map, AllByRecursion, IsDistinct}
 use Rattle.std.specs.Int.{w16, w32, to_be_bytes}
 use Rattle.class_desc.specs.declared.attribute.Attr.{Attr}
 use Rattle.class_desc.specs.declared.class.ClassDesc.{ClassDesc}
 use Rattle.class_desc.specs.declared.class.FieldDesc.{FieldDesc}
 use Rattle.class_desc.specs.declared.class.MethodDesc.{MethodDesc}
-use Rattle.java_names.specs.Names.{is_text, is_among, is_class_name, is_field_name, is_method_name}
-use Rattle.class_desc.specs.Pool.{Entry, entry_bytes, EntryFits, NamesText, NamesClass}
+use Rattle.class_desc.specs.declared.place.Place.{Place}
+use Rattle.class_desc.specs.declared.place.Place.TheVariants as place
+use Rattle.java_names.specs.ModifiedUtf8.{IsModifiedUtf8}
+use Rattle.java_names.specs.Names.{is_text, is_class_name, is_field_name, is_method_name}
+use Rattle.java_types.specs.declared.types.JType.{JType}
+use Rattle.java_types.specs.declared.types.JSig.TheVariants.{OfMethod, OfField}
+use Rattle.java_types.specs.Descriptor.{DescriptorSpells}
+use Rattle.descriptor_scan.specs.Forms.{slots}
+use Rattle.class_desc.specs.Places.{keeps}
+use Rattle.class_desc.specs.Pool.{Entry, entry_bytes, EntryFits, numbered, NamesText, NamesClass}
 
--- a text of the bytes 21 to 7e, as every text that something kept names is for now
-abbrev pub is_plain : List ℕ → Bool
-is_plain text = list_all (λ b. nat_le 33 b && nat_le b 126) text
+-- ---- forms of texts
 
--- a primitive type (JVMS 4.3.2), for now the only types of fields
-abbrev pub is_field_descriptor : List ℕ → Bool
-is_field_descriptor (letter ∷ []) = is_among (codes "BCDFIJSZ") letter
-is_field_descriptor [] = Bool.false
-is_field_descriptor (letter ∷ b ∷ bs) = Bool.false
+-- JVMS 4.2.1
+abbrev pub IsClassName : List ℕ → Type 0
+IsClassName text = is_class_name text ≡ true
 
--- no parameters and no result (JVMS 4.3.3), for now the only descriptor of methods
-abbrev pub is_method_descriptor : List ℕ → Bool
-is_method_descriptor text = is_text text (codes "()V")
+-- JVMS 4.2.2
+abbrev pub IsFieldName : List ℕ → Type 0
+IsFieldName text = is_field_name text ≡ true
 
--- the number is that of a plain text of this form
-pub record NamesForm (pool : List Entry) (is_form : List ℕ → Bool) (n : ℕ) (text : List ℕ) : Type 0 where
+-- JVMS 4.2.2, with <init> and <clinit> (JVMS 2.9.1, 2.9.2)
+abbrev pub IsMethodName : List ℕ → Type 0
+IsMethodName text = is_method_name text ≡ true
+
+-- the descriptor of a field (JVMS 4.3.2)
+abbrev pub IsFieldDescriptor : List ℕ → Type 0
+IsFieldDescriptor text = (type : JType) × DescriptorSpells (OfField type) text
+
+-- the flag of a method without this (JVMS table 4.6-A)
+abbrev pub static_flag : ℕ
+static_flag = 0x0008
+
+-- how many slots this takes in a method of these flags (JVMS 4.3.3)
+abbrev pub this_slots : ℕ → ℕ
+this_slots flags = if bit_and flags static_flag == 0 then 1 else 0
+
+-- The descriptor of a method of these flags, whatever its name (JVMS 4.3.3): at most 255 slots.
+pub record IsMethodDescriptor (flags : ℕ) (text : List ℕ) : Type 0 where
+  pub formals : List JType
+  pub ret : JType
+  pub spells : DescriptorSpells (OfMethod [] formals ret []) text
+  pub few : slots formals + this_slots flags ≤ 255
+
+-- ---- what numbers name
+
+-- the number names this text, which has this form
+pub record NamesForm (Names : ℕ → List ℕ → Type 0) (IsForm : List ℕ
+    → Type 0) (n : ℕ) (text : List ℕ) : Type 0 where
   pub fits : n < 2 ^ 16
-  pub named : NamesText pool n text
-  pub plain : is_plain text ≡ true
-  pub form : is_form text ≡ true
+  pub named : Names n text
+  pub modified : IsModifiedUtf8 text
+  pub form : IsForm text
 
--- the number is that of a class with this plain name
-pub record NamesPlainClass (pool : List Entry) (n : ℕ) (name : List ℕ) : Type 0 where
-  pub fits : n < 2 ^ 16
-  pub named : NamesClass pool n name
-  pub plain : is_plain name ≡ true
-  pub form : is_class_name name ≡ true
+-- the number is that of a text of this form
+abbrev pub NamesTextOf : List Entry → (List ℕ → Type 0) → ℕ → List ℕ → Type 0
+NamesTextOf pool IsForm = NamesForm (NamesText pool) IsForm
+
+-- the number is that of a class with this name
+abbrev pub NamesClassOf : List Entry → ℕ → List ℕ → Type 0
+NamesClassOf pool = NamesForm (NamesClass pool) IsClassName
 
 -- the name of the class that has no superclass
 abbrev pub object_name : List ℕ
@@ -45,14 +79,17 @@ object_name = codes "java/lang/Object"
 -- the superclass: the number 0 for java/lang/Object alone, which has none (JVMS 4.1)
 abbrev pub NamesSuper : List Entry → ℕ → List ℕ → Option (List ℕ) → Type 0
 NamesSuper pool n name None = (n ≡ 0) × (is_text name object_name ≡ true)
-NamesSuper pool n name (Some super) = (is_text name object_name ≡ Bool.false) × NamesPlainClass pool n super
+NamesSuper pool n name (Some super) = (is_text name object_name ≡ false)
+    × NamesClassOf pool n super
 
 -- numbers of classes, each with its name
 abbrev pub NamesClasses : List Entry → List ℕ → List (List ℕ) → Type 0
 NamesClasses pool [] [] = Unit {0}
-NamesClasses pool (n ∷ ns) (name ∷ names) = NamesPlainClass pool n name × NamesClasses pool ns names
+NamesClasses pool (n ∷ ns) (name ∷ names) = NamesClassOf pool n name × NamesClasses pool ns names
 NamesClasses pool [] (name ∷ names) = ⊥
 NamesClasses pool (n ∷ ns) [] = ⊥
+
+-- ---- attributes
 
 -- an attribute as it stands in the file (JVMS 4.7): the number of its name, and its body
 pub record RawAttribute : Type 0 where
@@ -62,49 +99,64 @@ pub record RawAttribute : Type 0 where
 abbrev pub attribute_bytes : RawAttribute → List ℕ
 attribute_bytes a = to_be_bytes w16 a.name ++ (to_be_bytes w32 (length a.body) ++ a.body)
 
--- an attribute that is passed: for now it is Code, wherever it stands (JVMS 4.7.3)
-pub record IsPassed (pool : List Entry) (a : RawAttribute) : Type 0 where
-  pub name : NamesForm pool (λ text. is_text text (codes "Code")) a.name (codes "Code")
+-- an attribute that is passed over: a description keeps none of this name here
+pub record IsPassed (pool : List Entry) (place : Place) (a : RawAttribute) : Type 0 where
+  pub name : List ℕ
+  pub named : NamesTextOf pool (λ name. keeps place name ≡ false) a.name name
   pub fits : length a.body < 2 ^ 32
 
 -- a counted list of attributes, of which these are kept
-pub record AttributesSpell (pool : List Entry) (kept : List Attr) (bytes : List ℕ) : Type 0 where
+pub record AttributesSpell (pool : List Entry) (place : Place) (kept : List Attr)
+    (bytes : List ℕ) : Type 0 where
   pub raw : List RawAttribute
   pub count : length raw < 2 ^ 16
   pub whole : bytes ≡ to_be_bytes w16 (length raw) ++ flat_map attribute_bytes raw
-  pub each : AllByRecursion (IsPassed pool) raw
+  pub each : AllByRecursion (IsPassed pool place) raw
   pub none_kept : kept ≡ []
 
+-- ---- members
+
 -- a field or a method (JVMS 4.5, 4.6), whose name and descriptor have these forms
-pub record MemberSpells (pool : List Entry) (is_name is_descriptor : List ℕ → Bool) (flags : ℕ) (name descriptor : List ℕ) (kept : List Attr) (bytes : List ℕ) : Type 0 where
-  pub name_number : ℕ
-  pub descriptor_number : ℕ
-  pub attributes : List ℕ
-  pub flags_fit : flags < 2 ^ 16
-  pub whole : bytes ≡ to_be_bytes w16 flags ++ (to_be_bytes w16 name_number ++ (to_be_bytes w16 descriptor_number ++ attributes))
-  pub named : NamesForm pool is_name name_number name
-  pub described : NamesForm pool is_descriptor descriptor_number descriptor
-  pub attributed : AttributesSpell pool kept attributes
+pub record MemberSpells (pool : List Entry) (place : Place) (IsName IsDescriptor : List ℕ
+    → Type 0) (flags : ℕ) (name descriptor : List ℕ) (kept : List Attr) (bytes : List ℕ) : Type 0
+  where
+    pub name_number : ℕ
+    pub descriptor_number : ℕ
+    pub attributes : List ℕ
+    pub flags_fit : flags < 2 ^ 16
+    pub whole : bytes ≡ to_be_bytes w16 flags
+        ++ (to_be_bytes w16 name_number ++ (to_be_bytes w16 descriptor_number ++ attributes))
+    pub named : NamesTextOf pool IsName name_number name
+    pub described : NamesTextOf pool IsDescriptor descriptor_number descriptor
+    pub attributed : AttributesSpell pool place kept attributes
 
 abbrev pub FieldSpells : List Entry → FieldDesc → List ℕ → Type 0
-FieldSpells pool f bytes = MemberSpells pool is_field_name is_field_descriptor f.flags f.name f.descriptor f.attrs bytes
+FieldSpells pool f bytes =
+    MemberSpells pool place.Field IsFieldName IsFieldDescriptor f.flags f.name f.descriptor f.attrs
+    bytes
 
 abbrev pub MethodSpells : List Entry → MethodDesc → List ℕ → Type 0
-MethodSpells pool m bytes = MemberSpells pool is_method_name is_method_descriptor m.flags m.name m.descriptor m.attrs bytes
+MethodSpells pool m bytes =
+    MemberSpells pool place.Method IsMethodName (IsMethodDescriptor m.flags) m.flags m.name
+    m.descriptor m.attrs bytes
 
 -- the items, one behind the other
 abbrev pub EachSpells : {A : Type 0} → (A → List ℕ → Type 0) → List A → List ℕ → Type 0
 EachSpells Spells [] bytes = bytes ≡ []
-EachSpells Spells (item ∷ items) bytes = (front : List ℕ) × (rest : List ℕ) × (bytes ≡ front ++ rest) × Spells item front × EachSpells Spells items rest
+EachSpells Spells (item ∷ items) bytes = (front : List ℕ) × (rest : List ℕ)
+    × (bytes ≡ front ++ rest) × Spells item front × EachSpells Spells items rest
 
 -- the items behind their count
-pub record CountedSpells {A : Type 0} (Spells : A → List ℕ → Type 0) (items : List A) (bytes : List ℕ) : Type 0 where
+pub record CountedSpells {A : Type 0} (Spells : A → List ℕ
+    → Type 0) (items : List A) (bytes : List ℕ) : Type 0 where
   pub rest : List ℕ
   pub count : length items < 2 ^ 16
   pub whole : bytes ≡ to_be_bytes w16 (length items) ++ rest
   pub each : EachSpells Spells items rest
 
--- what tells members of a class apart: the name and the descriptor
+-- ---- the class
+
+-- what tells members of a class apart: the name and the descriptor (JVMS 4.5, 4.6)
 abbrev pub Key : Type 0
 Key = List ℕ × List ℕ
 
@@ -133,7 +185,7 @@ magic = 0xCAFE_BABE
 abbrev pub file_bytes : ClassDesc → List Entry → Parts → List ℕ
 file_bytes d pool p =
     to_be_bytes w32 magic ++ (to_be_bytes w16 d.minor ++ (to_be_bytes w16 d.major
-    ++ (to_be_bytes w16 (length pool + 1) ++ (flat_map entry_bytes pool
+    ++ (to_be_bytes w16 (length (numbered pool) + 1) ++ (flat_map entry_bytes pool
     ++ (to_be_bytes w16 d.flags ++ (to_be_bytes w16 p.this ++ (to_be_bytes w16 p.super
     ++ (to_be_bytes w16 (length p.interfaces) ++ (flat_map (to_be_bytes w16) p.interfaces
     ++ (p.fields ++ (p.methods ++ p.attributes)))))))))))
@@ -143,13 +195,14 @@ pub record SpellsOver (d : ClassDesc) (bytes : List ℕ) (pool : List Entry) : T
   pub parts : Parts
   pub whole : bytes ≡ file_bytes d pool parts
   pub entries : AllByRecursion EntryFits pool
-  pub pool_count : length pool + 1 < 2 ^ 16
+  -- JVMS 4.1: the count is one more than the numbers
+  pub pool_count : length (numbered pool) + 1 < 2 ^ 16
   pub minor : d.minor < 2 ^ 16
   -- JDK 1.0.2 to Java SE 17 (JVMS table 4.1-A)
   pub major : (45 ≤ d.major) × (d.major ≤ 61)
-  -- without MODULE, the highest bit
+  -- without MODULE, the highest bit (JVMS table 4.1-B)
   pub flags : d.flags < 2 ^ 15
-  pub this : NamesPlainClass pool parts.this d.name
+  pub this : NamesClassOf pool parts.this d.name
   pub super : NamesSuper pool parts.super d.name d.super_name
   pub super_fits : parts.super < 2 ^ 16
   pub interface_count : length parts.interfaces < 2 ^ 16
@@ -158,7 +211,7 @@ pub record SpellsOver (d : ClassDesc) (bytes : List ℕ) (pool : List Entry) : T
   pub distinct_fields : IsDistinct is_key (map field_key d.fields)
   pub methods : CountedSpells (MethodSpells pool) d.methods parts.methods
   pub distinct_methods : IsDistinct is_key (map method_key d.methods)
-  pub attributes : AttributesSpell pool d.attrs parts.attributes
+  pub attributes : AttributesSpell pool place.Class d.attrs parts.attributes
 
 -- the bytes spell the description
 abbrev pub ClassSpells : ClassDesc → List ℕ → Type 0

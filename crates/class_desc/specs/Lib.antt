@@ -1,3 +1,4 @@
 pub mod ClassFile
 pub mod Layout
+pub mod Places
 pub mod Pool

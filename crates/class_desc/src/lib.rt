@@ -6,8 +6,10 @@
 
 mod annotation;
 mod attribute;
+pub mod attribute_name;
 mod bound_annotations;
 mod class;
+mod place;
 mod threads;
 mod value;
 
@@ -17,4 +19,5 @@ pub use bound_annotations::{Ann, ClassAnns, Deprecations};
 pub use class::{ClassDesc, FieldDesc, MethodDesc};
 pub use java_names::{is_class_name, is_field_name, is_method_name, is_modified_utf8};
 pub use java_types::{JArg, JParam, JPart, JSig, JType};
+pub use place::{KEPT_OF_CLASSES, KEPT_OF_COMPONENTS, KEPT_OF_FIELDS, KEPT_OF_METHODS, Place};
 pub use value::Value;
