@@ -1,0 +1,121 @@
+ghost use Rattle.std.specs.Prelude.{◌≡◌, ◌<◌, ◌^◌, ◌==◌, length};
+ghost use Rattle.std.specs.Int.{w8, w16, w32, w64};
+ghost use Rattle.pool_reader.specs.declared.fault.ReadErr.TheVariants.{Fault};
+ghost use Rattle.pool_reader.specs.Reading.{Gives, cut as cut_of, offset as offset_of};
+ghost use Rattle.pool_reader.specs.Reading.{number_at, piece_at, start};
+
+use crate::fault::{ClassKind, ReadErr};
+use std::marker::Model;
+
+/// Where a reading of a class file stands: the bytes that are left, the offset at which they end,
+/// and the offset of the length of the attribute whose body they are, if they are one.
+///
+/// A method that fails leaves the reader anywhere: reading ends there.
+#[derive(Drop)]
+pub struct Reader<'a> {
+    rest: &'a [u8],
+    end: u32,
+    outer: Option<u32>,
+}
+
+impl<'a> Model for Reader<'a> {
+    ghost use Rattle.pool_reader.specs.Reading.{Position};
+
+    ghost Value = { Position };
+
+    ghost view = { λ reader. record {
+      rest = reader.rest.now;
+      end = reader.end;
+      outer = reader.outer;
+    } };
+}
+
+impl<'a> Reader<'a> {
+    /// A reader of a whole file.
+    pub fn of(bytes: &'a [u8]) -> Reader<'a>
+        requires { length bytes.now < 2 ^ 32 }
+        ensures { result ≡ start bytes.now }
+    {
+        Reader {
+            rest: bytes,
+            end: bytes.len() as u32,
+            outer: None,
+        }
+    }
+
+    /// How many bytes are left.
+    pub fn len(&self) -> usize
+        ensures { result ≡ length self.now.rest }
+    {
+        self.rest.len()
+    }
+
+    /// Whether none is.
+    pub fn is_empty(&self) -> bool
+        ensures { result ≡ (length self.now.rest == 0) }
+    {
+        self.rest.is_empty()
+    }
+
+    /// The offset of the next item.
+    pub fn offset(&self) -> u32
+        ensures { result ≡ offset_of self.now }
+    {
+        (self.end as usize).saturating_sub(self.rest.len()) as u32
+    }
+
+    /// The fault of the next item, which isn't whole.
+    fn cut(&self) -> ReadErr
+        ensures { result ≡ Fault (cut_of self.now) }
+    {
+        match self.outer {
+            None => ClassKind::F1.at(self.offset()),
+            Some(length_at) => ClassKind::F8.at(length_at),
+        }
+    }
+
+    /// The next bytes, as many as `count`. Where fewer are left it is F1 at the first of them, or,
+    /// in the body of an attribute, F8 at its length; so with each number.
+    pub fn piece(&mut self, count: usize) -> Result<&'a [u8], ReadErr>
+        ensures { Gives (λ piece. piece.now) result self.new (piece_at count self.old) }
+    {
+        if self.rest.len() < count {
+            return Err(self.cut());
+        }
+        let (piece, rest) = self.rest.split_at(count);
+        self.rest = rest;
+        Ok(piece)
+    }
+
+    /// The next byte.
+    pub fn u8(&mut self) -> Result<u8, ReadErr>
+        ensures { Gives (λ n. n) result self.new (number_at w8 self.old) }
+    {
+        let bytes = self.piece(1)?;
+        Ok(bytes[0])
+    }
+
+    /// The next two bytes as a number, the highest first.
+    pub fn u16(&mut self) -> Result<u16, ReadErr>
+        ensures { Gives (λ n. n) result self.new (number_at w16 self.old) }
+    {
+        let bytes = self.piece(2)?;
+        Ok(u16::from_be_bytes([bytes[0], bytes[1]]))
+    }
+
+    /// The next four bytes as a number, the highest first.
+    pub fn u32(&mut self) -> Result<u32, ReadErr>
+        ensures { Gives (λ n. n) result self.new (number_at w32 self.old) }
+    {
+        let bytes = self.piece(4)?;
+        Ok(u32::from_be_bytes([bytes[0], bytes[1], bytes[2], bytes[3]]))
+    }
+
+    /// The next eight bytes as a number, the highest first.
+    pub fn u64(&mut self) -> Result<u64, ReadErr>
+        ensures { Gives (λ n. n) result self.new (number_at w64 self.old) }
+    {
+        let b = self.piece(8)?;
+        Ok(u64::from_be_bytes([b[0], b[1], b[2], b[3], b[4], b[5], b[6], b[7]]))
+    }
+}
