@@ -1,9 +1,8 @@
 pub mod Attributes
 pub mod ClassLaws
+pub mod FormLaws
+pub mod HeadLaws
+pub mod Items
 pub mod Keys
-pub mod Laws
 pub mod MemberLaws
 pub mod Members
-pub mod Numbers
-pub mod PoolLaws
-pub mod Times

@@ -1,69 +1,135 @@
 -- Fields and methods, of which no two have one name and descriptor.
 use Rattle.std.proofs.Common.{◌≡◌, ℕ, zero, suc, ◌^◌, ◌<◌, ◌||◌, ◌&&◌, Bool, true, false}
-use Rattle.std.proofs.Common.{true≢false, cond, List, [], ◌∷◌, ◌++◌, length, map, Ok, Err, refl}
-use Rattle.std.proofs.Common.{sym, ap, subst, ◌∙◌, append_assoc, arith}
+use Rattle.std.proofs.Common.{true≢false}
+use Rattle.std.proofs.Common.{cond, List, [], ◌∷◌, ◌++◌, length, map, Option, Ok, Err, refl, sym}
+use Rattle.std.proofs.Common.{ap}
+use Rattle.std.proofs.Common.{subst, ◌∙◌, append_assoc, append-nil, arith}
 use Rattle.std.specs.List.{AllByRecursion, IsDistinct, list_any}
 use Rattle.std.specs.Int.{w16, to_be_bytes}
 use Rattle.std.specs.Cmp.Lexicographic.{same_text}
 use Rattle.std.proofs.lemmas.List.Folds.{list_any-append}
+use Rattle.class_desc.specs.declared.attribute.Attr.{Attr}
 use Rattle.class_desc.specs.declared.class.FieldDesc.{FieldDesc}
 use Rattle.class_desc.specs.declared.class.MethodDesc.{MethodDesc}
-use Rattle.java_names.specs.Names.{is_text, is_field_name, is_method_name}
+use Rattle.java_names.specs.Names.{is_text}
 use Rattle.class_desc.specs.Pool.{Entry}
-use Rattle.class_desc.specs.ClassFile.{is_field_descriptor, is_method_descriptor, NamesForm}
-use Rattle.class_desc.specs.ClassFile.{AttributesSpell, MemberSpells, FieldSpells, MethodSpells}
+use Rattle.class_desc.specs.ClassFile.{IsFieldName, IsMethodName, IsFieldDescriptor}
+use Rattle.class_desc.specs.ClassFile.{IsMethodDescriptor}
+use Rattle.class_desc.specs.ClassFile.{NamesTextOf, AttributesSpell, MemberSpells, FieldSpells}
+use Rattle.class_desc.specs.ClassFile.{MethodSpells}
 use Rattle.class_desc.specs.ClassFile.{EachSpells, CountedSpells, Key, is_key, field_key}
 use Rattle.class_desc.specs.ClassFile.{method_key}
+use Rattle.pool_reader.specs.declared.fault.ClassKind.TheVariants.{F9}
+use Rattle.pool_reader.specs.Reading.{◌>>=◌, Position, offset, Read, fault_at}
+use Rattle.pool_reader.specs.Pooled.{rows_of}
+use Rattle.pool_reader.proofs.Laws.{Reads, reads_as, Given, reads_given, Then, joined, reads_then}
+use Rattle.pool_reader.proofs.Laws.{Checked, reads_checked, Made, reads_made, same_after}
+use Rattle.pool_reader.proofs.Numbers.{NumberSpells, reads_u16}
 use Rattle.class_reader.specs.declared.member.Member.{Member}
-use Rattle.class_reader.specs.Reading.{◌>>=◌, Read, not_yet, text_at, attributes_at, unseen}
+use Rattle.class_reader.specs.declared.member.MemberKind.{MemberKind}
+use Rattle.class_reader.specs.declared.member.MemberKind.TheVariants as kind
+use Rattle.class_reader.specs.Forms.{form_fault}
+use Rattle.class_reader.specs.Reading.{text_at, attributes_at, place_of, name_form}
+use Rattle.class_reader.specs.Reading.{descriptor_form, unseen}
 use Rattle.class_reader.specs.Reading.{signed_at, member_at, members_at, as_field, as_method}
-use Rattle.class_reader.specs.Reading.{field_at, method_at, fields_at, methods_at}
-use Rattle.class_reader.proofs.Laws.{Reads, reads_as, Given, reads_given, Then, reads_then}
-use Rattle.class_reader.proofs.Laws.{Checked, reads_checked, Made, reads_made, same_after}
-use Rattle.class_reader.proofs.Numbers.{NumberSpells, reads_u16}
-use Rattle.class_reader.proofs.PoolLaws.{Numbered, reads_text}
+use Rattle.class_reader.specs.Reading.{fields_at, methods_at}
+use Rattle.class_reader.proofs.FormLaws.{Tells, field_name_tells, method_name_tells}
+use Rattle.class_reader.proofs.FormLaws.{field_descriptor_tells, method_descriptor_tells}
+use Rattle.class_reader.proofs.Items.{Numbered, reads_text}
 use Rattle.class_reader.proofs.Attributes.{reads_attributes}
 
--- ---- a member
+-- ---- a member that is like none before it
+
+-- no member that was seen has this key
+abbrev pub IsNew : List Key → Key → Type 0
+IsNew seen key = list_any (is_key key) seen ≡ false
+
+abbrev pub member_key : Member → Key
+member_key m = (m.name, m.descriptor)
+
+new_is : (at : ℕ) (key : Key) (seen : List Key) (nothing : Unit {0})
+    → unseen at key seen ≡ Ok nothing
+    → IsNew seen key
+new_is at key seen nothing e = by (list_any (is_key key) seen) refl e
+  where
+    by : (b : Bool)
+        → list_any (is_key key) seen ≡ b
+        → cond b (Err (fault_at at F9)) (Ok tt) ≡ Ok nothing
+        → list_any (is_key key) seen ≡ false
+    by true is e = absurd cc
+    by false is e = is
+
+is_new : (at : ℕ) (key : Key) (seen : List Key) → IsNew seen key → unseen at key seen ≡ Ok tt
+is_new at key seen new = rw new refl
+
+-- nothing is read
+abbrev NewGiven : {A : Type 0} → List Key → Key → A → A → List ℕ → Type 0
+NewGiven seen key made item rest = IsNew seen key × Given made item rest
+
+reads_new : {A : Type 0} (at : ℕ) (key : Key) (seen : List Key) (made : A)
+    → Reads (λ p. unseen at key seen >>= λ new. Ok (made, p)) (NewGiven seen key made)
+reads_new at key seen made =
+    reads_as (NewGiven seen key made)
+    (reads_checked (unseen at key seen) (λ new p. Ok (made, p)) (λ new. reads_given made))
+    (λ item rest c. (new_is at key seen c.item c.passed, c.second))
+    (λ item rest n. record { item = tt; passed = is_new at key seen n.0; second = n.1 })
 
 -- what stands in front of the attributes
-record SignedSpells (pool : List Entry) (is_name is_descriptor : List ℕ → Bool)
-    (m : ℕ × List ℕ × List ℕ) (text : List ℕ) : Type 0 where
+record SignedSpells (pool : List Entry) (IsName : List ℕ → Type 0) (IsDescriptor : ℕ → List ℕ
+    → Type 0)
+    (seen : List Key) (m : ℕ × List ℕ × List ℕ) (text : List ℕ) : Type 0 where
   name_number : ℕ
   descriptor_number : ℕ
   fits : m.0 < 2 ^ 16
-  named : NamesForm pool is_name name_number m.1
-  described : NamesForm pool is_descriptor descriptor_number m.2
+  named : NamesTextOf pool IsName name_number m.1
+  described : NamesTextOf pool (IsDescriptor m.0) descriptor_number m.2
+  new : IsNew seen (m.1, m.2)
   whole : text ≡ to_be_bytes w16 m.0
       ++ (to_be_bytes w16 name_number ++ to_be_bytes w16 descriptor_number)
 
-module _ (pool : List Entry) (is_name is_descriptor : List ℕ → Bool) where
-  abbrev SignedParts : ℕ × List ℕ × List ℕ → List ℕ → Type 0
-  SignedParts = Then (NumberSpells w16 (2 ^ 16))
-      (λ flags. Then (Numbered (NamesForm pool is_name))
-      (λ name. Made (λ descriptor. (flags, name, descriptor))
-      (Numbered (NamesForm pool is_descriptor))))
+-- a member that is like none before it
+pub record NewMember (Spells : Member → List ℕ → Type 0) (seen : List Key) (m : Member)
+    (text : List ℕ) : Type 0 where
+  pub new : IsNew seen (member_key m)
+  pub spells : Spells m text
 
-  to_signed : (m : ℕ × List ℕ × List ℕ) (text : List ℕ) → SignedParts m text →
-      SignedSpells pool is_name is_descriptor m text
-  to_signed m text s =
+module _ (pool : List Entry) (kind : MemberKind) (IsName : List ℕ → Type 0)
+    (IsDescriptor : ℕ → List ℕ → Type 0) where
+  abbrev Signed : List Key → ℕ × List ℕ × List ℕ → List ℕ → Type 0
+  Signed = SignedSpells pool IsName IsDescriptor
+
+  abbrev FromName : List Key → ℕ → ℕ × List ℕ × List ℕ → List ℕ → Type 0
+  FromName seen flags =
+      Then (Numbered (NamesTextOf pool IsName)) (λ name.
+      Then (Numbered (NamesTextOf pool (IsDescriptor flags))) (λ descriptor.
+      NewGiven seen (name, descriptor) (flags, name, descriptor)))
+
+  abbrev SignedParts : List Key → ℕ × List ℕ × List ℕ → List ℕ → Type 0
+  SignedParts seen = Then (NumberSpells w16 (2 ^ 16)) (FromName seen)
+
+  to_signed : (seen : List Key) (m : ℕ × List ℕ × List ℕ) (text : List ℕ)
+      → SignedParts seen m text
+      → Signed seen m text
+  to_signed seen m text s =
       let n = s.second in
       let d = n.second in
-      subst (λ m. SignedSpells pool is_name is_descriptor m text) d.is (record {
+      let last : d.rest ≡ [] = d.second.1.1 in
+      let numbers = joined n n.first.is (joined d d.first.is last
+      ∙ append-nil (to_be_bytes w16 d.first.number)) in
+      subst (λ m. Signed seen m text) d.second.1.0 (record {
         name_number = n.first.number;
-        descriptor_number = d.spells.number;
+        descriptor_number = d.first.number;
         fits = s.first.0;
         named = n.first.named;
-        described = d.spells.named;
-        whole = s.whole ∙ ap (λ (t : List ℕ). t ++ s.rest) s.first.1
-            ∙ ap (λ (t : List ℕ). to_be_bytes w16 s.item ++ t)
-            (n.whole ∙ ap (λ (t : List ℕ). t ++ n.rest) n.first.is
-            ∙ ap (λ (t : List ℕ). to_be_bytes w16 n.first.number ++ t) d.spells.is);
+        described = d.first.named;
+        new = d.second.0;
+        whole = joined s s.first.1 numbers;
       })
 
-  from_signed : (m : ℕ × List ℕ × List ℕ) (text : List ℕ) →
-      SignedSpells pool is_name is_descriptor m text → SignedParts m text
-  from_signed m text s = record {
+  from_signed : (seen : List Key) (m : ℕ × List ℕ × List ℕ) (text : List ℕ)
+      → Signed seen m text
+      → SignedParts seen m text
+  from_signed seen m text s = record {
     item = m.0;
     front = to_be_bytes w16 m.0;
     rest = to_be_bytes w16 s.name_number ++ to_be_bytes w16 s.descriptor_number;
@@ -77,98 +143,64 @@ module _ (pool : List Entry) (is_name is_descriptor : List ℕ → Bool) where
       first = record { number = s.name_number; fits = s.named.fits; named = s.named; is = refl };
       second = record {
         item = m.2;
-        is = refl;
-        spells =
-            record {
-              number = s.descriptor_number;
-              fits = s.described.fits;
-              named = s.described;
-              is = refl;
-            };
+        front = to_be_bytes w16 s.descriptor_number;
+        rest = [];
+        whole = sym (append-nil (to_be_bytes w16 s.descriptor_number));
+        first = record {
+          number = s.descriptor_number;
+          fits = s.described.fits;
+          named = s.described;
+          is = refl;
+        };
+        second = (s.new, (refl, refl));
       };
     };
   }
 
-  reads_signed : Reads (signed_at pool is_name is_descriptor)
-      (SignedSpells pool is_name is_descriptor)
-  unfolding signed_at
-  reads_signed = reads_as (SignedSpells pool is_name is_descriptor)
-      (reads_then (λ start flags rest. text_at pool is_name rest >>= λ name. text_at pool
-      is_descriptor name.1 >>= λ descriptor. Ok ((flags, name.0, descriptor.0), descriptor.1))
-      reads_u16 (λ start flags.
-      reads_then (λ start name rest. text_at pool is_descriptor rest >>= λ descriptor. Ok
-      ((flags, name, descriptor.0), descriptor.1)) (reads_text pool is_name) (λ start name.
-      reads_made (λ descriptor. (flags, name, descriptor)) (reads_text pool is_descriptor))))
-      to_signed
-      from_signed
-
--- no member that was seen has this key
-abbrev pub IsNew : List Key → Key → Type 0
-IsNew seen key = list_any (is_key key) seen ≡ false
-
-abbrev pub member_key : Member → Key
-member_key m = (m.name, m.descriptor)
-
--- a member that is like none before it
-pub record NewMember (Spells : Member → List ℕ → Type 0) (seen : List Key) (m : Member)
-    (text : List ℕ) : Type 0 where
-  pub new : IsNew seen (member_key m)
-  pub spells : Spells m text
-
-new_is : (key : Key) (seen : List Key) (nothing : Unit {0}) → unseen key seen ≡ Ok nothing →
-    IsNew seen key
-new_is key seen nothing e = by (list_any (is_key key) seen) refl e
-  where
-    by : (b : Bool) → list_any (is_key key) seen ≡ b → cond b (Err not_yet) (Ok tt) ≡ Ok nothing →
-        list_any (is_key key) seen ≡ false
-    by true is e = absurd cc
-    by false is e = is
-
-is_new : (key : Key) (seen : List Key) → IsNew seen key → unseen key seen ≡ Ok tt
-is_new key seen new = rw new refl
-
-module _ (pool : List Entry) (is_name is_descriptor : List ℕ → Bool) where
   abbrev pub SpellsMember : Member → List ℕ → Type 0
-  SpellsMember m text = MemberSpells pool is_name is_descriptor m.flags m.name m.descriptor
+  SpellsMember m text =
+      MemberSpells pool (place_of kind) IsName (IsDescriptor m.flags) m.flags m.name m.descriptor
       m.attrs text
 
   abbrev MemberParts : List Key → Member → List ℕ → Type 0
-  MemberParts seen = Then (SignedSpells pool is_name is_descriptor)
-      (λ front. Checked (unseen (front.1, front.2) seen)
-      (λ new. Made (λ attrs. record {
+  MemberParts seen =
+      Then (Signed seen) (λ front.
+      Made (λ attrs. record {
         flags = front.0;
         name = front.1;
         descriptor = front.2;
-        attrs = attrs;
-      }) (AttributesSpell pool)))
+        attrs =
+            attrs;
+      })
+      (AttributesSpell pool (place_of kind)))
 
-  to_member : (seen : List Key) (m : Member) (text : List ℕ) → MemberParts seen m text →
-      NewMember SpellsMember seen m text
+  to_member : (seen : List Key) (m : Member) (text : List ℕ)
+      → MemberParts seen m text
+      → NewMember SpellsMember seen m text
   to_member seen m text s =
       let f = s.first in
-      let c = s.second in
-      let a = c.second in
+      let a = s.second in
+      let flags = to_be_bytes w16 s.item.0 in
+      let name = to_be_bytes w16 f.name_number in
+      let descriptor = to_be_bytes w16 f.descriptor_number in
       subst (λ m. NewMember SpellsMember seen m text) a.is (record {
-        new = new_is (s.item.1, s.item.2) seen c.item c.passed;
+        new = f.new;
         spells = record {
           name_number = f.name_number;
           descriptor_number = f.descriptor_number;
           attributes = s.rest;
           flags_fit = f.fits;
-          whole = s.whole ∙ ap (λ (t : List ℕ). t ++ s.rest) f.whole
-              ∙ append_assoc (to_be_bytes w16 s.item.0)
-              (to_be_bytes w16 f.name_number ++ to_be_bytes w16 f.descriptor_number) s.rest
-              ∙ ap (λ (t : List ℕ). to_be_bytes w16 s.item.0 ++ t)
-              (append_assoc (to_be_bytes w16 f.name_number) (to_be_bytes w16 f.descriptor_number)
-              s.rest);
+          whole = joined s f.whole refl ∙ append_assoc flags (name ++ descriptor) s.rest
+              ∙ ap (λ (t : List ℕ). flags ++ t) (append_assoc name descriptor s.rest);
           named = f.named;
           described = f.described;
           attributed = a.spells;
         };
       })
 
-  from_member : (seen : List Key) (m : Member) (text : List ℕ) →
-      NewMember SpellsMember seen m text → MemberParts seen m text
+  from_member : (seen : List Key) (m : Member) (text : List ℕ)
+      → NewMember SpellsMember seen m text
+      → MemberParts seen m text
   from_member seen m text n =
       let s = n.spells in
       let flags = to_be_bytes w16 m.flags in
@@ -178,7 +210,8 @@ module _ (pool : List Entry) (is_name is_descriptor : List ℕ → Bool) where
         item = (m.flags, m.name, m.descriptor);
         front = flags ++ (name ++ descriptor);
         rest = s.attributes;
-        whole = s.whole ∙ sym (append_assoc flags (name ++ descriptor) s.attributes
+        whole = s.whole
+            ∙ sym (append_assoc flags (name ++ descriptor) s.attributes
             ∙ ap (λ (t : List ℕ). flags ++ t) (append_assoc name descriptor s.attributes));
         first = record {
           name_number = s.name_number;
@@ -186,41 +219,77 @@ module _ (pool : List Entry) (is_name is_descriptor : List ℕ → Bool) where
           fits = s.flags_fit;
           named = s.named;
           described = s.described;
+          new = n.new;
           whole = refl;
         };
-        second = record {
-          item = tt;
-          passed = is_new (m.name, m.descriptor) seen n.new;
-          second =
-              record { item = m.attrs; is = refl; spells = s.attributed };
-        };
+        second = record { item = m.attrs; is = refl; spells = s.attributed };
       }
 
-  pub reads_member : (seen : List Key) →
-      Reads (member_at pool is_name is_descriptor seen) (NewMember SpellsMember seen)
-  unfolding member_at
-  reads_member seen = reads_as (NewMember SpellsMember seen)
-      (reads_then (λ start front rest. unseen (front.1, front.2) seen >>= λ new. attributes_at
-      pool rest >>= λ attrs. Ok (
-        record
-            { flags = front.0; name = front.1; descriptor = front.2; attrs = attrs.0 },
-        attrs.1,
-      ))
-      (reads_signed pool is_name is_descriptor) (λ start front.
-      reads_checked (unseen (front.1, front.2) seen)
-      (λ new rest. attributes_at pool rest >>= λ attrs. Ok (
-        record { flags = front.0; name = front.1; descriptor = front.2; attrs = attrs.0 },
-        attrs.1,
-      )) (λ new.
-      reads_made (λ attrs. record {
-        flags = front.0;
-        name = front.1;
-        descriptor = front.2;
-        attrs =
-            attrs;
-      }) (reads_attributes pool))))
-      (to_member seen)
-      (from_member seen)
+  module _ (name_law : Tells (form_fault (name_form kind)) IsName)
+      (descriptor_law : (flags : ℕ) → Tells (form_fault (descriptor_form kind flags))
+      (IsDescriptor flags)) where
+    abbrev name_at : Position → Read (List ℕ)
+    name_at = text_at (rows_of pool) (form_fault (name_form kind))
+
+    abbrev descriptor_at : ℕ → Position → Read (List ℕ)
+    descriptor_at flags = text_at (rows_of pool) (form_fault (descriptor_form kind flags))
+
+    reads_from_name : (seen : List Key) (flags : ℕ)
+        → Reads
+        (λ p. name_at p >>= λ name. descriptor_at flags name.1 >>= λ descriptor.
+        unseen (offset p) (name.0, descriptor.0) seen >>= λ new.
+        Ok ((flags, name.0, descriptor.0), descriptor.1))
+        (FromName seen flags)
+    reads_from_name seen flags =
+        reads_then
+        (λ begun name rest. descriptor_at flags rest >>= λ descriptor.
+        unseen (offset begun) (name, descriptor.0) seen >>= λ new.
+        Ok ((flags, name, descriptor.0), descriptor.1))
+        (reads_text pool (form_fault (name_form kind)) IsName name_law)
+        (λ begun name.
+        reads_then
+        (λ later descriptor rest. unseen (offset begun) (name, descriptor) seen >>= λ new.
+        Ok ((flags, name, descriptor), rest))
+        (reads_text pool (form_fault (descriptor_form kind flags)) (IsDescriptor flags)
+        (descriptor_law flags))
+        (λ later descriptor.
+        reads_new (offset begun) (name, descriptor) seen (flags, name, descriptor)))
+
+    reads_signed : (seen : List Key) → Reads (signed_at (rows_of pool) kind seen) (Signed seen)
+    unfolding signed_at
+    reads_signed seen =
+        reads_as (Signed seen)
+        (reads_then
+        (λ begun flags rest. name_at rest >>= λ name. descriptor_at flags name.1 >>= λ descriptor.
+        unseen (offset rest) (name.0, descriptor.0) seen >>= λ new.
+        Ok ((flags, name.0, descriptor.0), descriptor.1))
+        reads_u16
+        (λ begun flags. reads_from_name seen flags))
+        (to_signed seen)
+        (from_signed seen)
+
+    pub reads_member : (seen : List Key)
+        → Reads (member_at (rows_of pool) kind seen) (NewMember SpellsMember seen)
+    unfolding member_at
+    reads_member seen =
+        reads_as (NewMember SpellsMember seen)
+        (reads_then
+        (λ begun front rest. attributes_at (rows_of pool) (place_of kind) rest >>= λ attrs.
+        Ok (
+          record { flags = front.0; name = front.1; descriptor = front.2; attrs = attrs.0 },
+          attrs.1,
+        ))
+        (reads_signed seen)
+        (λ begun front.
+        reads_made (λ attrs. record {
+          flags = front.0;
+          name = front.1;
+          descriptor = front.2;
+          attrs = attrs;
+        })
+        (reads_attributes pool (place_of kind))))
+        (to_member seen)
+        (from_member seen)
 
 -- ---- keys
 
@@ -264,18 +333,19 @@ record AreApart (seen keys : List Key) : Type 0 where
   unseen_each : AllByRecursion (IsNew seen) keys
   distinct : IsDistinct is_key keys
 
-split_last : (seen : List Key) (key other : Key) → IsNew (seen ++ key ∷ []) other →
-    IsNew seen other × (is_key other key ≡ false)
-split_last seen key other new = neither (list_any (is_key other) seen) (is_key other key)
+split_last : (seen : List Key) (key other : Key) → IsNew (seen ++ key ∷ []) other
+    → IsNew seen other × (is_key other key ≡ false)
+split_last seen key other new =
+    neither (list_any (is_key other) seen) (is_key other key)
     (sym (list_any-append (is_key other) seen (key ∷ [])) ∙ new)
 
-join_last : (seen : List Key) (key other : Key) → IsNew seen other → is_key other key ≡ false →
-    IsNew (seen ++ key ∷ []) other
+join_last : (seen : List Key) (key other : Key) → IsNew seen other → is_key other key ≡ false
+    → IsNew (seen ++ key ∷ []) other
 join_last seen key other new differs = list_any-append (is_key other) seen (key ∷ [])
     ∙ rw (new, differs) refl
 
-all_split : (seen : List Key) (key : Key) (keys : List Key) →
-    AllByRecursion (IsNew (seen ++ key ∷ [])) keys → AllByRecursion (IsNew seen) keys
+all_split : (seen : List Key) (key : Key) (keys : List Key)
+    → AllByRecursion (IsNew (seen ++ key ∷ [])) keys → AllByRecursion (IsNew seen) keys
     × AllByRecursion (λ k. is_key key k ≡ false) keys
 all_split seen key [] all = (tt, tt)
 all_split seen key (k ∷ ks) all =
@@ -283,9 +353,9 @@ all_split seen key (k ∷ ks) all =
     let others = all_split seen key ks all.1 in
     ((one.0, others.0), (other_key k key one.1, others.1))
 
-all_joined : (seen : List Key) (key : Key) (keys : List Key) → AllByRecursion (IsNew seen) keys →
-    AllByRecursion (λ k. is_key key k ≡ false) keys →
-    AllByRecursion (IsNew (seen ++ key ∷ [])) keys
+all_joined : (seen : List Key) (key : Key) (keys : List Key) → AllByRecursion (IsNew seen) keys
+    → AllByRecursion (λ k. is_key key k ≡ false) keys
+    → AllByRecursion (IsNew (seen ++ key ∷ [])) keys
 all_joined seen key [] new differ = tt
 all_joined seen key (k ∷ ks) new differ =
     (join_last seen key k new.0 (other_key key k differ.0), all_joined seen key ks new.1 differ.1)
@@ -303,11 +373,11 @@ unfolding IsDistinct
 from_apart seen [] a = tt
 from_apart seen (key ∷ keys) a = (
   a.unseen_each.0,
-  from_apart (seen ++ key ∷ []) keys
-      (record {
-        unseen_each = all_joined seen key keys a.unseen_each.1 a.distinct.0;
-        distinct =
-            a.distinct.1;
+  from_apart (seen
+      ++ key ∷ []) keys (record {
+        unseen_each =
+            all_joined seen key keys a.unseen_each.1 a.distinct.0;
+        distinct = a.distinct.1;
       }),
 )
 
@@ -324,131 +394,131 @@ new_distinct keys distinct = from_apart [] keys
 
 -- ---- as many members as a count says
 
-module _ {A : Type 0} (make : Member → A) (back : A → Member) (Spells : Member → List ℕ → Type 0)
-  where
-    abbrev pub SpellsBack : A → List ℕ → Type 0
-    SpellsBack item text = Spells (back item) text
+module _ {A : Type 0} (make : Member → A) (back : A → Member) (Spells : Member → List ℕ
+    → Type 0) where
+  abbrev pub SpellsBack : A → List ℕ → Type 0
+  SpellsBack item text = Spells (back item) text
 
-    abbrev pub back_key : A → Key
-    back_key item = member_key (back item)
+  abbrev pub back_key : A → Key
+  back_key item = member_key (back item)
 
-    pub record SeveralMembers (seen : List Key) (count : ℕ) (items : List A) (text : List ℕ) :
-        Type 0 where
+  pub record SeveralMembers (seen : List Key) (count : ℕ) (items : List A) (text : List ℕ) : Type 0
+    where
       pub length_is : length items ≡ count
       pub each : EachSpells SpellsBack items text
       pub new : AreNew seen (map back_key items)
 
-    abbrev MembersParts : List Key → ℕ → List A → List ℕ → Type 0
-    MembersParts seen n = Then (NewMember Spells seen)
-        (λ m. Made (λ items. make m ∷ items) (SeveralMembers (seen ++ member_key m ∷ []) n))
+  abbrev MembersParts : List Key → ℕ → List A → List ℕ → Type 0
+  MembersParts seen n = Then (NewMember Spells seen) (λ m.
+      Made (λ items. make m ∷ items) (SeveralMembers (seen ++ member_key m ∷ []) n))
 
-    no_member : (seen : List Key) (items : List A) (text : List ℕ) →
-        SeveralMembers seen 0 items text → Given [] items text
-    no_member seen [] text s = (refl, s.each)
-    no_member seen (item ∷ items) text s = absurd (let h = s.length_is in cc)
+  no_member : (seen : List Key) (items : List A) (text : List ℕ) → SeveralMembers seen 0 items text
+      → Given [] items text
+  no_member seen [] text s = (refl, s.each)
+  no_member seen (item ∷ items) text s = absurd (let h = s.length_is in cc)
 
-    module _ (there : (m : Member) → back (make m) ≡ m)
-        (again : (item : A) → make (back item) ≡ item) where
-      to_members : (seen : List Key) (n : ℕ) (items : List A) (text : List ℕ) →
-          MembersParts seen n items text → SeveralMembers seen (suc n) items text
-      to_members seen n items text s =
-          let m = s.item in
-          let others = s.second in
-          subst (λ v. SeveralMembers seen (suc n) v text) others.is (record {
-            length_is = ap suc others.spells.length_is;
-            each = (
-              s.front,
-              s.rest,
-              s.whole,
-              subst (λ k. Spells k s.front) (sym (there m)) s.first.spells,
-              others.spells.each,
-            );
-            new = subst (λ k. IsNew seen k × AreNew (seen ++ k ∷ []) (map back_key others.item))
-                (ap member_key (sym (there m))) (s.first.new, others.spells.new);
-          })
+  module _ (there : (m : Member) → back (make m) ≡ m) (again : (item : A) → make (back item)
+      ≡ item) where
+    to_members : (seen : List Key) (n : ℕ) (items : List A) (text : List ℕ)
+        → MembersParts seen n items text → SeveralMembers seen (suc n) items text
+    to_members seen n items text s =
+        let m = s.item in
+        let others = s.second in
+        subst (λ v. SeveralMembers seen (suc n) v text) others.is (record {
+          length_is = ap suc others.spells.length_is;
+          each = (
+            s.front,
+            s.rest,
+            s.whole,
+            subst (λ k. Spells k s.front) (sym (there m))
+                s.first.spells,
+            others.spells.each,
+          );
+          new = subst (λ k. IsNew seen k × AreNew (seen ++ k ∷ []) (map back_key others.item))
+              (ap member_key (sym (there m))) (s.first.new, others.spells.new);
+        })
 
-      from_members : (seen : List Key) (n : ℕ) (items : List A) (text : List ℕ) →
-          SeveralMembers seen (suc n) items text → MembersParts seen n items text
-      from_members seen n [] text s = absurd (let h = s.length_is in cc)
-      from_members seen n (item ∷ items) text s = record {
-        item = back item;
-        front = s.each.0;
-        rest = s.each.1;
-        whole = s.each.2;
-        first = record { new = s.new.0; spells = s.each.3 };
-        second = record {
-          item = items;
-          is = ap (λ (x : A). x ∷ items) (again item);
-          spells =
-              record {
-                length_is = same_after (length items) n s.length_is;
-                each = s.each.4;
-                new =
-                    s.new.1;
-              };
-        };
-      }
+    from_members : (seen : List Key) (n : ℕ) (items : List A) (text : List ℕ)
+        → SeveralMembers seen (suc n) items text → MembersParts seen n items text
+    from_members seen n [] text s = absurd (let h = s.length_is in cc)
+    from_members seen n (item ∷ items) text s = record {
+      item = back item;
+      front = s.each.0;
+      rest = s.each.1;
+      whole = s.each.2;
+      first = record { new = s.new.0; spells = s.each.3 };
+      second = record {
+        item = items;
+        is = ap (λ (x : A). x ∷ items) (again item);
+        spells =
+            record {
+              length_is = same_after (length items) n s.length_is;
+              each = s.each.4;
+              new =
+                  s.new.1;
+            };
+      };
+    }
 
-      pub reads_members : (read : List Key → List ℕ → Read Member) →
-          ((seen : List Key) → Reads (read seen) (NewMember Spells seen)) →
-          (seen : List Key) (n : ℕ) → Reads (members_at make read seen n) (SeveralMembers seen n)
-      unfolding members_at
-      reads_members read law seen zero =
-          reads_as (SeveralMembers seen 0) (reads_given [])
-          (λ items text s. subst (λ v. SeveralMembers seen 0 v text) s.0
-          (record { length_is = refl; each = s.1; new = tt })) (no_member seen)
-      reads_members read law seen (suc n) = reads_as (SeveralMembers seen (suc n))
-          (reads_then (λ start m rest. members_at make read (seen ++ member_key m ∷ []) n rest >>=
-          λ ms. Ok (make m ∷ ms.0, ms.1)) (law seen) (λ start m.
-          reads_made (λ items. make m ∷ items)
-          (reads_members read law (seen ++ member_key m ∷ []) n)))
-          (to_members seen n)
-          (from_members seen n)
+    pub reads_members : (read : List Key → Position → Read Member)
+        → ((seen : List Key) → Reads (read seen) (NewMember Spells seen))
+        → (seen : List Key) (n : ℕ) → Reads (members_at make read seen n)
+        (SeveralMembers seen n)
+    unfolding members_at
+    reads_members read law seen zero =
+        reads_as (SeveralMembers seen 0) (reads_given []) (λ items text s.
+        subst (λ v. SeveralMembers seen 0 v text) s.0
+        (record { length_is = refl; each = s.1; new = tt })) (no_member seen)
+    reads_members read law seen (suc n) = reads_as (SeveralMembers seen (suc n))
+        (reads_then (λ begun m rest. members_at make read (seen ++ member_key m ∷ []) n rest >>=
+        λ ms. Ok (make m ∷ ms.0, ms.1)) (law seen) (λ begun m.
+        reads_made (λ items. make m ∷ items)
+        (reads_members read law (seen ++ member_key m ∷ []) n)))
+        (to_members seen n)
+        (from_members seen n)
 
 -- members behind their count, of which no two have one key
-pub record DistinctSpell {A : Type 0} (Spells : A → List ℕ → Type 0) (key : A → Key)
-    (items : List A) (text : List ℕ) : Type 0 where
+pub record DistinctSpell {A : Type 0} (Spells : A → List ℕ → Type 0) (key : A
+    → Key) (items : List A) (text : List ℕ) : Type 0 where
   pub spells : CountedSpells Spells items text
   pub distinct : IsDistinct is_key (map key items)
 
-module _ {A : Type 0} (make : Member → A) (back : A → Member) (Spells : Member → List ℕ → Type 0)
-  where
-    abbrev CountedMembers : List A → List ℕ → Type 0
-    CountedMembers = Then (NumberSpells w16 (2 ^ 16)) (SeveralMembers make back Spells [])
+module _ {A : Type 0} (make : Member → A) (back : A → Member) (Spells : Member → List ℕ
+    → Type 0) where
+  abbrev CountedMembers : List A → List ℕ → Type 0
+  CountedMembers = Then (NumberSpells w16 (2 ^ 16)) (SeveralMembers make back Spells [])
 
-    abbrev Distinct : List A → List ℕ → Type 0
-    Distinct = DistinctSpell (λ item. Spells (back item)) (λ item. member_key (back item))
+  abbrev Distinct : List A → List ℕ → Type 0
+  Distinct = DistinctSpell (λ item. Spells (back item)) (λ item. member_key (back item))
 
-    to_distinct : (items : List A) (text : List ℕ) → CountedMembers items text → Distinct items text
-    to_distinct items text s = record {
-      spells = record {
-        rest = s.rest;
-        count = omega (arith, s.first.0, s.second.length_is);
-        whole = s.whole ∙ ap (λ (t : List ℕ). t ++ s.rest)
-            (s.first.1 ∙ ap (to_be_bytes w16) (sym s.second.length_is));
-        each = s.second.each;
-      };
-      distinct = distinct_new _ s.second.new;
-    }
+  to_distinct : (items : List A) (text : List ℕ) → CountedMembers items text → Distinct items text
+  to_distinct items text s = record {
+    spells = record {
+      rest = s.rest;
+      count = omega (arith, s.first.0, s.second.length_is);
+      whole = joined s (s.first.1 ∙ ap (to_be_bytes w16) (sym s.second.length_is)) refl;
+      each = s.second.each;
+    };
+    distinct = distinct_new _ s.second.new;
+  }
 
-    from_distinct : (items : List A) (text : List ℕ) → Distinct items text →
-        CountedMembers items text
-    from_distinct items text s = record {
-      item = length items;
-      front = to_be_bytes w16 (length items);
-      rest = s.spells.rest;
-      whole = s.spells.whole;
-      first = (s.spells.count, refl);
-      second = record { length_is = refl; each = s.spells.each; new = new_distinct _ s.distinct };
-    }
+  from_distinct : (items : List A) (text : List ℕ) → Distinct items text
+      → CountedMembers items text
+  from_distinct items text s = record {
+    item = length items;
+    front = to_be_bytes w16 (length items);
+    rest = s.spells.rest;
+    whole = s.spells.whole;
+    first = (s.spells.count, refl);
+    second = record { length_is = refl; each = s.spells.each; new = new_distinct _ s.distinct };
+  }
 
 abbrev field_back : FieldDesc → Member
 field_back f = record {
   flags = f.flags;
   name = f.name;
   descriptor = f.descriptor;
-  attrs =
-      f.attrs;
+  attrs = f.attrs;
 }
 
 abbrev method_back : MethodDesc → Member
@@ -460,27 +530,33 @@ method_back m = record {
       m.attrs;
 }
 
-pub reads_fields : (pool : List Entry) →
-    Reads (fields_at pool) (DistinctSpell (FieldSpells pool) field_key)
+pub reads_fields : (pool : List Entry)
+    → Reads (fields_at (rows_of pool)) (DistinctSpell (FieldSpells pool) field_key)
 unfolding fields_at
 reads_fields pool =
-    let Spells = SpellsMember pool is_field_name is_field_descriptor in
+    let IsDescriptor = λ (flags : ℕ). IsFieldDescriptor in
+    let Spells = SpellsMember pool kind.Field IsFieldName IsDescriptor in
+    let read = member_at (rows_of pool) kind.Field in
+    let law = reads_member pool kind.Field IsFieldName IsDescriptor field_name_tells
+    (λ flags. field_descriptor_tells) in
     reads_as (DistinctSpell (FieldSpells pool) field_key)
-    (reads_then (λ start count rest. members_at as_field (field_at pool) [] count rest) reads_u16
-    (λ start count. reads_members as_field field_back Spells (λ m. refl) (λ f. refl)
-    (field_at pool) (reads_member pool is_field_name is_field_descriptor) [] count))
+    (reads_then (λ begun count rest. members_at as_field read [] count rest) reads_u16
+    (λ begun count. reads_members as_field field_back Spells (λ m. refl) (λ f. refl) read law []
+    count))
     (to_distinct as_field field_back Spells)
     (from_distinct as_field field_back Spells)
 
-pub reads_methods : (pool : List Entry) →
-    Reads (methods_at pool) (DistinctSpell (MethodSpells pool) method_key)
+pub reads_methods : (pool : List Entry)
+    → Reads (methods_at (rows_of pool)) (DistinctSpell (MethodSpells pool) method_key)
 unfolding methods_at
 reads_methods pool =
-    let Spells = SpellsMember pool is_method_name is_method_descriptor in
+    let Spells = SpellsMember pool kind.Method IsMethodName IsMethodDescriptor in
+    let read = member_at (rows_of pool) kind.Method in
+    let law = reads_member pool kind.Method IsMethodName IsMethodDescriptor method_name_tells
+    method_descriptor_tells in
     reads_as (DistinctSpell (MethodSpells pool) method_key)
-    (reads_then (λ start count rest. members_at as_method (method_at pool) [] count rest)
-    reads_u16 (λ start count. reads_members as_method method_back Spells (λ m. refl)
-    (λ m. refl) (method_at pool) (reads_member pool is_method_name is_method_descriptor) []
+    (reads_then (λ begun count rest. members_at as_method read [] count rest) reads_u16
+    (λ begun count. reads_members as_method method_back Spells (λ m. refl) (λ m. refl) read law []
     count))
     (to_distinct as_method method_back Spells)
     (from_distinct as_method method_back Spells)

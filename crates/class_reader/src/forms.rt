@@ -1,13 +1,22 @@
-//! The forms of texts (JVMS 4.2, 4.3).
-ghost use Rattle.std.specs.Prelude.{◌≡◌};
-ghost use Rattle.class_reader.specs.Reading.{Answers, checked, form_test};
-ghost use Rattle.class_reader.specs.Seen.{text_seen};
-ghost use Rattle.class_desc.specs.ClassFile.{is_plain as is_plain_text};
-ghost use Rattle.class_desc.specs.ClassFile.{is_field_descriptor as is_field_descriptor_of};
-ghost use Rattle.class_desc.specs.ClassFile.{is_method_descriptor as is_method_descriptor_of};
+//! The forms of texts (JVMS 4.2, 4.3), and items that are numbers of texts.
+ghost use Rattle.std.specs.Prelude.{◌≡◌, ◌+◌, nat_le};
+ghost use Rattle.pool_reader.specs.Reading.{Answers, Gives};
+ghost use Rattle.pool_reader.specs.Seen.{text_seen};
+ghost use Rattle.class_desc.specs.ClassFile.{this_slots};
+ghost use Rattle.class_reader.specs.Forms.{form_fault, unless as unless_of};
+ghost use Rattle.class_reader.specs.Forms.{is_method_descriptor as is_method_descriptor_of};
+ghost use Rattle.class_reader.specs.Reading.{checked, text_at, class_checked, class_at};
 
-use crate::fault::{ClassFault, ReadErr};
+use class_desc::Place;
+use descriptor_scan::{is_field_descriptor, parameter_slots};
 use java_names::{is_class_name, is_field_name, is_method_name};
+use pool_reader::{ClassKind, Pool, ReadErr, Reader};
+
+/// The flag of a method without `this` (JVMS table 4.6-A).
+const STATIC: u16 = 0x0008;
+
+/// The most slots of a method's parameters, `this` among them (JVMS 4.3.3).
+const MOST_SLOTS: usize = 255;
 
 /// What a text has to be where it is named.
 #[derive(Clone, Copy)]
@@ -16,55 +25,93 @@ pub enum Form {
     FieldName,
     MethodName,
     FieldDescriptor,
-    MethodDescriptor,
-    /// The name of the attribute Code.
-    CodeName,
+    /// The descriptor of a method of these flags.
+    MethodDescriptor(u16),
+    /// The name of an attribute that a description doesn't keep here.
+    PassedAttribute(Place),
 }
 
 impl Form {
-    #[tactic(auto, unfolding(crate::specs::Reading::form_test))]
-    fn fits(self, text: &[u8]) -> bool
-        ensures { result ≡ form_test self text.now }
+    /// What is wrong with a text that hasn't this form.
+    #[tactic(auto, unfolding(crate::specs::Forms::form_fault))]
+    fn fault(self, text: &[u8]) -> Option<ClassKind>
+        ensures { result ≡ form_fault self text.now }
     {
         match self {
-            Form::ClassName => is_class_name(text),
-            Form::FieldName => is_field_name(text),
-            Form::MethodName => is_method_name(text),
-            Form::FieldDescriptor => is_field_descriptor(text),
-            Form::MethodDescriptor => is_method_descriptor(text),
-            Form::CodeName => text == b"Code".as_slice(),
+            Form::ClassName => unless(is_class_name(text), ClassKind::F7),
+            Form::FieldName => unless(is_field_name(text), ClassKind::F7),
+            Form::MethodName => unless(is_method_name(text), ClassKind::F7),
+            Form::FieldDescriptor => unless(is_field_descriptor(text), ClassKind::F7),
+            Form::MethodDescriptor(flags) => {
+                unless(is_method_descriptor(flags, text), ClassKind::F7)
+            }
+            Form::PassedAttribute(place) => unless(!place.keeps(text), ClassKind::NotYet),
         }
     }
 
-    /// The text, where there is one and it has this form.
-    pub fn check<'a>(self, text: Option<&'a [u8]>) -> Result<&'a [u8], ReadErr>
-        ensures { Answers (λ checked. checked.now) result
-            (checked (form_test self) (text_seen text.entry)) }
+    /// The text that the item at this offset names, where it has this form.
+    fn check<'a>(self, at: u32, named: Result<&'a [u8], ClassKind>) -> Result<&'a [u8], ReadErr>
+        ensures { Answers (λ text. text.now) result
+            (checked (form_fault self) at (text_seen named.entry)) }
     {
-        match text {
-            Some(text) if is_plain(text) && self.fits(text) => Ok(text),
-            _ => Err(ReadErr::Fault(ClassFault::NOT_YET)),
+        match named {
+            Err(kind) => Err(kind.at(at)),
+            Ok(text) => match self.fault(text) {
+                Some(kind) => Err(kind.at(at)),
+                None => Ok(text),
+            },
         }
     }
-}
 
-fn is_plain(text: &[u8]) -> bool
-    ensures { result ≡ is_plain_text text.now }
-{
-    text.iter().all(|b| 0x21 <= *b && *b <= 0x7e)
-}
-
-fn is_field_descriptor(text: &[u8]) -> bool
-    ensures { result ≡ is_field_descriptor_of text.now }
-{
-    match text {
-        [b'B' | b'C' | b'D' | b'F' | b'I' | b'J' | b'S' | b'Z'] => true,
-        _ => false,
+    /// The number of a text of this form.
+    #[tactic(auto, unfolding(crate::specs::Reading::text_at))]
+    pub fn text<'a>(self, reader: &mut Reader<'_>, pool: &Pool<'a>) -> Result<&'a [u8], ReadErr>
+        ensures { Gives (λ text. text.now) result reader.new
+            (text_at pool.now (form_fault self) reader.old) }
+    {
+        let at = reader.offset();
+        let number = reader.u16()?;
+        self.check(at, pool.text(number))
     }
 }
 
-fn is_method_descriptor(text: &[u8]) -> bool
-    ensures { result ≡ is_method_descriptor_of text.now }
+/// The number of a class, whose name it gives.
+#[tactic(auto, unfolding(crate::specs::Reading::class_at))]
+pub fn class_name<'a>(reader: &mut Reader<'_>, pool: &Pool<'a>) -> Result<&'a [u8], ReadErr>
+    ensures { Gives (λ name. name.now) result reader.new (class_at pool.now reader.old) }
 {
-    text == b"()V".as_slice()
+    let at = reader.offset();
+    let number = reader.u16()?;
+    class_of_number(pool, at, number)
+}
+
+/// The name of the class of this number, which stands at this offset.
+pub fn class_of_number<'a>(pool: &Pool<'a>, at: u32, number: u16) -> Result<&'a [u8], ReadErr>
+    ensures { Answers (λ name. name.now) result (class_checked pool.now at number) }
+{
+    Form::ClassName.check(at, pool.class(number))
+}
+
+fn unless(holds: bool, kind: ClassKind) -> Option<ClassKind>
+    ensures { result ≡ unless_of holds kind }
+{
+    if holds { None } else { Some(kind) }
+}
+
+/// The descriptor of a method of these flags (JVMS 4.3.3).
+fn is_method_descriptor(flags: u16, text: &[u8]) -> bool
+    ensures { result ≡ is_method_descriptor_of flags text.now }
+{
+    match parameter_slots(text) {
+        Some(slots) => are_few(slots, flags),
+        None => false,
+    }
+}
+
+/// Whether a method of these flags may have parameters of as many slots.
+fn are_few(slots: usize, flags: u16) -> bool
+    ensures { result ≡ nat_le (slots + this_slots flags) 255 }
+{
+    let this = if flags & STATIC == 0 { 1 } else { 0 };
+    slots <= MOST_SLOTS - this
 }

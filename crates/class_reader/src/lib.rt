@@ -1,15 +1,14 @@
 //! Class files (JVMS 4) to descriptions.
 //!
-//! A [`Reader`](reader) goes over the bytes from front to back; each of its methods reads one
-//! item.
+//! A [`Reader`](pool_reader::Reader) goes over the bytes from front to back; each function reads
+//! one item.
 #![tactic(auto)]
 
+mod attribute;
 mod class;
-mod fault;
 mod forms;
+mod head;
 mod member;
-mod pool;
-mod reader;
 
 pub use class::{one_description, read_class, reads_what_is_spelled};
-pub use fault::{ClassFault, ClassKind, ReadErr};
+pub use pool_reader::{ClassFault, ClassKind, ReadErr};

@@ -1,18 +1,56 @@
 ghost use Rattle.std.specs.Prelude.{◌≡◌, [], ◌∷◌, ◌++◌, IfOk, OnOk};
-ghost use Rattle.class_reader.specs.Reading.{Answers, Gives, unseen, pass_all, attribute_at};
-ghost use Rattle.class_reader.specs.Reading.{attributes_at, form_test, signed_at, member_at};
-ghost use Rattle.class_reader.specs.Reading.{members_at, as_field, as_method, fields_at};
-ghost use Rattle.class_reader.specs.Reading.{methods_at};
+ghost use Rattle.pool_reader.specs.Reading.{Answers, Gives};
+ghost use Rattle.class_reader.specs.Reading.{unseen, place_of, name_form, descriptor_form};
+ghost use Rattle.class_reader.specs.Reading.{signed_at, member_at, members_at, as_field};
+ghost use Rattle.class_reader.specs.Reading.{as_method, fields_at, methods_at};
 
-use crate::fault::{ClassFault, ReadErr};
+use crate::attribute::attributes;
 use crate::forms::Form;
-use crate::pool::Pool;
-use crate::reader::Reader;
-use class_desc::{Attr, FieldDesc, MethodDesc};
+use class_desc::{Attr, FieldDesc, MethodDesc, Place};
 use hdr_core::{List, Text};
 use indexmap::IndexSet;
+use pool_reader::{ClassKind, Pool, ReadErr, Reader};
 use std::alloc::Global;
 use std::marker::Model;
+
+/// The least bytes of a member in a file: flags, name, descriptor and a count of attributes.
+const LEAST_MEMBER: usize = 8;
+
+/// What a member is.
+#[derive(Clone, Copy)]
+pub enum MemberKind {
+    Field,
+    Method,
+}
+
+impl MemberKind {
+    fn place(self) -> Place
+        ensures { result ≡ place_of self }
+    {
+        match self {
+            MemberKind::Field => Place::Field,
+            MemberKind::Method => Place::Method,
+        }
+    }
+
+    fn name(self) -> Form
+        ensures { result ≡ name_form self }
+    {
+        match self {
+            MemberKind::Field => Form::FieldName,
+            MemberKind::Method => Form::MethodName,
+        }
+    }
+
+    fn descriptor(self, flags: u16) -> Form
+        ensures { result ≡ descriptor_form self flags }
+    {
+        match self {
+            MemberKind::Field => Form::FieldDescriptor,
+            MemberKind::Method => Form::MethodDescriptor(flags),
+        }
+    }
+}
 
 /// A field or a method.
 #[derive(Drop)]
@@ -91,130 +129,107 @@ impl<'a> SeenMembers<'a> {
         }
     }
 
-    /// Adds a member. It is a fault where there is one of its name and descriptor.
-    pub fn add(&mut self, name: &'a [u8], descriptor: &'a [u8]) -> Result<(), ReadErr>
-        ensures unseen { Answers (λ _. tt) result (unseen (name.now, descriptor.now) self.old) }
+    /// Adds a member, whose name stands at this offset. It is a fault where there is one of its
+    /// name and descriptor.
+    pub fn add(&mut self, at: u32, name: &'a [u8], descriptor: &'a [u8]) -> Result<(), ReadErr>
+        ensures unseen { Answers (λ _. tt) result
+            (unseen at (name.now, descriptor.now) self.old) }
         ensures seen { OnOk result (self.new ≡ self.old ++ (name.now, descriptor.now) ∷ []) }
     {
         if self.keys.insert(MemberKey { name, descriptor })? {
             Ok(())
         } else {
-            Err(ReadErr::Fault(ClassFault::NOT_YET))
+            Err(ClassKind::F9.at(at))
         }
     }
 }
 
-impl<'a> Reader<'a> {
-    /// Passes an attribute, which is Code (JVMS 4.7.3): a description keeps nothing of it.
-    #[tactic(auto, unfolding(crate::specs::Reading::attribute_at, crate::specs::Reading::form_test))]
-    fn pass_attribute(&mut self, pool: &Pool<'a>) -> Result<(), ReadErr>
-        ensures { Gives (λ _. tt) result self.new (attribute_at pool.now self.old) }
-    {
-        let _name = self.text(pool, Form::CodeName)?;
-        let count = self.u32()?;
-        let _body = self.piece(count as usize)?;
-        Ok(())
-    }
+/// The flags, the name and the descriptor of a member that is like none before it.
+#[tactic(auto, unfolding(crate::specs::Reading::signed_at))]
+fn signed<'a>(
+    reader: &mut Reader<'_>,
+    pool: &Pool<'a>,
+    kind: MemberKind,
+    seen: &mut SeenMembers<'a>,
+) -> Result<(u16, &'a [u8], &'a [u8]), ReadErr>
+    ensures signed { Gives (λ m. (m.0, m.1.now, m.2.now)) result reader.new
+        (signed_at pool.now kind seen.old reader.old) }
+    ensures seen { IfOk result (λ m. seen.new ≡ seen.old ++ (m.1.now, m.2.now) ∷ []) }
+{
+    let flags = reader.u16()?;
+    let name_at = reader.offset();
+    let name = kind.name().text(reader, pool)?;
+    let descriptor = kind.descriptor(flags).text(reader, pool)?;
+    seen.add(name_at, name, descriptor)?;
+    Ok((flags, name, descriptor))
+}
 
-    fn pass_attributes(&mut self, pool: &Pool<'a>, count: u16) -> Result<(), ReadErr>
-        ensures { Gives (λ _. tt) result self.new
-            (pass_all (attribute_at pool.now) count self.old) }
-    {
-        for _ in 0..count {
-            self.pass_attribute(pool)?;
-        }
-        Ok(())
-    }
+/// A member that is like none before it.
+#[tactic(auto, unfolding(crate::specs::Reading::member_at))]
+fn next_member<'a>(
+    reader: &mut Reader<'_>,
+    alloc: Global,
+    pool: &Pool<'a>,
+    kind: MemberKind,
+    seen: &mut SeenMembers<'a>,
+) -> Result<Member, ReadErr>
+    ensures member { Gives (λ m. m) result reader.new
+        (member_at pool.now kind seen.old reader.old) }
+    ensures seen { IfOk result (λ m. seen.new ≡ seen.old ++ (m.name, m.descriptor) ∷ []) }
+{
+    let (flags, name, descriptor) = signed(reader, pool, kind, seen)?;
+    let attrs = attributes(reader, alloc, pool, kind.place())?;
+    Ok(Member {
+        flags,
+        name: Text::of(alloc, name)?,
+        descriptor: Text::of(alloc, descriptor)?,
+        attrs,
+    })
+}
 
-    /// The attributes that are kept, their count first.
-    #[tactic(auto, unfolding(crate::specs::Reading::attributes_at))]
-    pub fn attributes(&mut self, alloc: Global, pool: &Pool<'a>) -> Result<List<Attr>, ReadErr>
-        ensures { Gives (λ attrs. attrs) result self.new (attributes_at pool.now self.old) }
-    {
-        let count = self.u16()?;
-        self.pass_attributes(pool, count)?;
-        Ok(List::of(Vec::new(alloc)))
+/// As many members as that, of which none is like another.
+fn member_list<T: FromMember>(
+    reader: &mut Reader<'_>,
+    alloc: Global,
+    pool: &Pool<'_>,
+    kind: MemberKind,
+    count: u16,
+) -> Result<List<T>, ReadErr>
+    ensures { Gives (λ members. members) result reader.new
+        (members_at T.described (member_at pool.now kind) [] count reader.old) }
+{
+    let most = reader.len() / LEAST_MEMBER;
+    let mut seen = SeenMembers::new(alloc);
+    let mut members = Vec::with_capacity(alloc, usize::from(count).min(most))?;
+    for _ in 0..count {
+        let member = next_member(reader, alloc, pool, kind, &mut seen)?;
+        members.push(T::from_member(member))?;
     }
+    Ok(List::of(members))
+}
 
-    /// The flags, the name and the descriptor of a member.
-    #[tactic(auto, unfolding(crate::specs::Reading::signed_at))]
-    fn signed(
-        &mut self,
-        pool: &Pool<'a>,
-        name: Form,
-        descriptor: Form,
-    ) -> Result<(u16, &'a [u8], &'a [u8]), ReadErr>
-        ensures { Gives (λ m. (m.0, m.1.now, m.2.now)) result self.new
-            (signed_at pool.now (form_test name) (form_test descriptor) self.old) }
-    {
-        let flags = self.u16()?;
-        let name = self.text(pool, name)?;
-        let descriptor = self.text(pool, descriptor)?;
-        Ok((flags, name, descriptor))
-    }
+/// The fields, their count first.
+#[tactic(auto, unfolding(crate::specs::Reading::fields_at))]
+pub fn fields(
+    reader: &mut Reader<'_>,
+    alloc: Global,
+    pool: &Pool<'_>,
+) -> Result<List<FieldDesc>, ReadErr>
+    ensures { Gives (λ fields. fields) result reader.new (fields_at pool.now reader.old) }
+{
+    let count = reader.u16()?;
+    member_list(reader, alloc, pool, MemberKind::Field, count)
+}
 
-    /// A member whose name and descriptor none before it has.
-    #[tactic(auto, unfolding(crate::specs::Reading::member_at))]
-    fn member(
-        &mut self,
-        alloc: Global,
-        pool: &Pool<'a>,
-        name: Form,
-        descriptor: Form,
-        seen: &mut SeenMembers<'a>,
-    ) -> Result<Member, ReadErr>
-        ensures member { Gives (λ m. m) result self.new
-            (member_at pool.now (form_test name) (form_test descriptor) seen.old self.old) }
-        ensures seen { IfOk result (λ m. seen.new ≡ seen.old ++ (m.name, m.descriptor) ∷ []) }
-    {
-        let (flags, name, descriptor) = self.signed(pool, name, descriptor)?;
-        seen.add(name, descriptor)?;
-        let attrs = self.attributes(alloc, pool)?;
-        Ok(Member {
-            flags,
-            name: Text::of(alloc, name)?,
-            descriptor: Text::of(alloc, descriptor)?,
-            attrs,
-        })
-    }
-
-    /// As many members as that, of which none has the name and descriptor of another.
-    fn member_list<T: FromMember>(
-        &mut self,
-        alloc: Global,
-        pool: &Pool<'a>,
-        name: Form,
-        descriptor: Form,
-        count: u16,
-    ) -> Result<List<T>, ReadErr>
-        ensures { Gives (λ members. members) result self.new
-            (members_at T.described (member_at pool.now (form_test name) (form_test descriptor))
-            [] count self.old) }
-    {
-        let mut seen = SeenMembers::new(alloc);
-        let mut members = Vec::new(alloc);
-        for _ in 0..count {
-            let member = self.member(alloc, pool, name, descriptor, &mut seen)?;
-            members.push(T::from_member(member))?;
-        }
-        Ok(List::of(members))
-    }
-
-    /// The fields, their count first.
-    #[tactic(auto, unfolding(crate::specs::Reading::fields_at, crate::specs::Reading::form_test))]
-    pub fn fields(&mut self, alloc: Global, pool: &Pool<'a>) -> Result<List<FieldDesc>, ReadErr>
-        ensures { Gives (λ fields. fields) result self.new (fields_at pool.now self.old) }
-    {
-        let count = self.u16()?;
-        self.member_list(alloc, pool, Form::FieldName, Form::FieldDescriptor, count)
-    }
-
-    /// The methods, their count first.
-    #[tactic(auto, unfolding(crate::specs::Reading::methods_at, crate::specs::Reading::form_test))]
-    pub fn methods(&mut self, alloc: Global, pool: &Pool<'a>) -> Result<List<MethodDesc>, ReadErr>
-        ensures { Gives (λ methods. methods) result self.new (methods_at pool.now self.old) }
-    {
-        let count = self.u16()?;
-        self.member_list(alloc, pool, Form::MethodName, Form::MethodDescriptor, count)
-    }
+/// The methods, their count first.
+#[tactic(auto, unfolding(crate::specs::Reading::methods_at))]
+pub fn methods(
+    reader: &mut Reader<'_>,
+    alloc: Global,
+    pool: &Pool<'_>,
+) -> Result<List<MethodDesc>, ReadErr>
+    ensures { Gives (λ methods. methods) result reader.new (methods_at pool.now reader.old) }
+{
+    let count = reader.u16()?;
+    member_list(reader, alloc, pool, MemberKind::Method, count)
 }

@@ -8,7 +8,15 @@ mod annotations;
 #[cfg(test)]
 mod descriptions;
 #[cfg(test)]
+mod faults;
+#[cfg(test)]
+mod kept;
+#[cfg(test)]
+mod limits;
+#[cfg(test)]
 mod lists;
+#[cfg(test)]
+mod member_faults;
 #[cfg(test)]
 mod reading;
 #[cfg(test)]

@@ -1,6 +1,4 @@
 //! What the tests build descriptions from. Where memory is wanting, the test ends.
-ghost use Rattle.std.specs.Prelude.{◌≡◌, []};
-
 use hdr_core::{List, Text};
 use std::process::Abort;
 
@@ -16,14 +14,10 @@ pub fn texts<R: Abort + AllocGlobal>(rt: &R, texts: &[&[u8]]) -> List<Text> {
     List::of(list)
 }
 
-pub fn none<R: AllocGlobal, T>(rt: &R) -> List<T>
-    ensures { result ≡ [] }
-{
+pub fn none<R: AllocGlobal, T>(rt: &R) -> List<T> {
     List::of(Vec::new(rt.alloc()))
 }
 
-pub fn list<R: Abort + AllocGlobal, T: Drop, const N: usize>(rt: &R, items: [T; N]) -> List<T>
-    ensures { result ≡ items }
-{
+pub fn list<R: Abort + AllocGlobal, T: Drop, const N: usize>(rt: &R, items: [T; N]) -> List<T> {
     List::of(Vec::from_array(rt.alloc(), items).expect(rt, "memory"))
 }

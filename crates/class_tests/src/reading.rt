@@ -97,12 +97,9 @@ fn reads_classes(rt: HostRuntime) {
     assert!(rt; refused);
 }
 
-/// A class with as many methods as `count`, whose names are the texts of its pool from first to
-/// last, and then again.
-///
-/// No pool has more: one class, which is its own superclass, and the 65,533 texts A, ()V, m00000,
+/// A file to the end of its pool, which has one class, A, and the 65,533 texts A, ()V, m00000,
 /// m00001 and so on.
-fn class_of_methods<R: Abort + AllocGlobal>(rt: &R, count: u16) -> Vec<u8> {
+fn pool_of_names<R: Abort + AllocGlobal>(rt: &R) -> Vec<u8> {
     let mut file = Vec::new(rt.alloc());
     add(
         rt,
@@ -113,6 +110,14 @@ fn class_of_methods<R: Abort + AllocGlobal>(rt: &R, count: u16) -> Vec<u8> {
         let entry = format!(in rt.alloc(); "\x01\0\x06m{number:05}").expect(rt, "memory");
         add(rt, &mut file, entry.as_bytes());
     }
+    file
+}
+
+/// A class with as many methods as `count`, whose names are the texts of this pool from first to
+/// last, and then again. The class is its own superclass, since no pool has more names.
+fn class_of_methods<R: Abort + AllocGlobal>(rt: &R, pool: &[u8], count: u16) -> Vec<u8> {
+    let mut file = Vec::new(rt.alloc());
+    add(rt, &mut file, pool);
     add(rt, &mut file, b"\0\x21\0\x01\0\x01\0\0\0\0");
     add(rt, &mut file, &count.to_be_bytes());
     for number in 0..count {
@@ -128,12 +133,12 @@ fn class_of_methods<R: Abort + AllocGlobal>(rt: &R, count: u16) -> Vec<u8> {
 #[test]
 fn reads_many_methods(rt: HostRuntime) {
     let repeated = ReadErr::Fault(ClassFault {
-        offset: 0,
-        kind: ClassKind::NotYet,
+        offset: 1_114_080,
+        kind: ClassKind::F9,
     });
-    let cases: [(u16, Result<usize, ReadErr>); 2] = [(65_533, Ok(65_533)), (65_535, Err(repeated))];
-    for (count, want) in cases {
-        let file = class_of_methods(&rt, count);
+    let pool = pool_of_names(&rt);
+    for (count, want) in [(65_533, Ok(65_533)), (65_535, Err(repeated))] {
+        let file = class_of_methods(&rt, &pool, count);
         assert!(rt; file.len() <= 16_777_216);
         let read = read_class(rt.alloc(), &file).map(|class| class.methods.items().len());
         assert!(rt; read == want);

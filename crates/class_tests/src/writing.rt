@@ -1,7 +1,3 @@
-ghost use Rattle.std.specs.Prelude.{◌≡◌, []};
-ghost use Rattle.std.specs.List.{AllByRecursion};
-ghost use Rattle.class_desc.specs.Layout.{HasNoAttributes};
-
 use crate::lists::{list, none, text, texts};
 use class_desc::{ClassDesc, FieldDesc, MethodDesc};
 use class_writer::{PoolErr, write_class};
@@ -19,9 +15,7 @@ struct Case<'a> {
     file: &'a [u8],
 }
 
-fn field_of<R: Abort + AllocGlobal>(rt: &R, name: &[u8], descriptor: &[u8]) -> FieldDesc
-    ensures { result.attrs ≡ [] }
-{
+fn field_of<R: Abort + AllocGlobal>(rt: &R, name: &[u8], descriptor: &[u8]) -> FieldDesc {
     FieldDesc {
         flags: 0x0001,
         name: text(rt, name),
@@ -30,9 +24,7 @@ fn field_of<R: Abort + AllocGlobal>(rt: &R, name: &[u8], descriptor: &[u8]) -> F
     }
 }
 
-fn method_of<R: Abort + AllocGlobal>(rt: &R, name: &[u8], descriptor: &[u8]) -> MethodDesc
-    ensures { result.attrs ≡ [] }
-{
+fn method_of<R: Abort + AllocGlobal>(rt: &R, name: &[u8], descriptor: &[u8]) -> MethodDesc {
     MethodDesc {
         flags: 0x0001,
         name: text(rt, name),
@@ -41,27 +33,21 @@ fn method_of<R: Abort + AllocGlobal>(rt: &R, name: &[u8], descriptor: &[u8]) -> 
     }
 }
 
-fn fields_of<R: Abort + AllocGlobal>(rt: &R, field: Option<(&[u8], &[u8])>) -> List<FieldDesc>
-    ensures { AllByRecursion (λ f. f.attrs ≡ []) result }
-{
+fn fields_of<R: Abort + AllocGlobal>(rt: &R, field: Option<(&[u8], &[u8])>) -> List<FieldDesc> {
     match field {
         Some((name, descriptor)) => list(rt, [field_of(rt, name, descriptor)]),
         None => none(rt),
     }
 }
 
-fn methods_of<R: Abort + AllocGlobal>(rt: &R, method: Option<(&[u8], &[u8])>) -> List<MethodDesc>
-    ensures { AllByRecursion (λ m. m.attrs ≡ []) result }
-{
+fn methods_of<R: Abort + AllocGlobal>(rt: &R, method: Option<(&[u8], &[u8])>) -> List<MethodDesc> {
     match method {
         Some((name, descriptor)) => list(rt, [method_of(rt, name, descriptor)]),
         None => none(rt),
     }
 }
 
-fn class_of<R: Abort + AllocGlobal>(rt: &R, case: &Case<'_>) -> ClassDesc
-    ensures { HasNoAttributes result }
-{
+fn class_of<R: Abort + AllocGlobal>(rt: &R, case: &Case<'_>) -> ClassDesc {
     ClassDesc {
         minor: 0,
         major: 61,
@@ -82,28 +68,35 @@ const CASES: [Case<'static>; 4] = [
         super_name: Some(b"java/lang/Object"),
         field: None,
         method: None,
-        file: b"\xca\xfe\xba\xbe\0\0\0\x3d\0\x05\x01\0\x01A\x07\0\x01\x01\0\x10java/lang/Object\x07\0\x03\0\x21\0\x02\0\x04\0\0\0\0\0\0\0\0",
+        file: b"\xca\xfe\xba\xbe\0\0\0\x3d\0\x05\
+            \x01\0\x01A\x07\0\x01\x01\0\x10java/lang/Object\x07\0\x03\
+            \0\x21\0\x02\0\x04\0\0\0\0\0\0\0\0",
     },
     Case {
         name: b"A",
         super_name: Some(b"java/lang/Object"),
         field: None,
         method: Some((b"m", b"()V")),
-        file: b"\xca\xfe\xba\xbe\0\0\0\x3d\0\x07\x01\0\x01A\x07\0\x01\x01\0\x10java/lang/Object\x07\0\x03\x01\0\x01m\x01\0\x03()V\0\x21\0\x02\0\x04\0\0\0\0\0\x01\0\x01\0\x05\0\x06\0\0\0\0",
+        file: b"\xca\xfe\xba\xbe\0\0\0\x3d\0\x07\
+            \x01\0\x01A\x07\0\x01\x01\0\x10java/lang/Object\x07\0\x03\x01\0\x01m\x01\0\x03()V\
+            \0\x21\0\x02\0\x04\0\0\0\0\0\x01\0\x01\0\x05\0\x06\0\0\0\0",
     },
     Case {
         name: b"I",
         super_name: Some(b"java/lang/Object"),
         field: Some((b"I", b"I")),
         method: None,
-        file: b"\xca\xfe\xba\xbe\0\0\0\x3d\0\x05\x01\0\x01I\x07\0\x01\x01\0\x10java/lang/Object\x07\0\x03\0\x21\0\x02\0\x04\0\0\0\x01\0\x01\0\x01\0\x01\0\0\0\0\0\0",
+        file: b"\xca\xfe\xba\xbe\0\0\0\x3d\0\x05\
+            \x01\0\x01I\x07\0\x01\x01\0\x10java/lang/Object\x07\0\x03\
+            \0\x21\0\x02\0\x04\0\0\0\x01\0\x01\0\x01\0\x01\0\0\0\0\0\0",
     },
     Case {
         name: b"java/lang/Object",
         super_name: None,
         field: None,
         method: None,
-        file: b"\xca\xfe\xba\xbe\0\0\0\x3d\0\x03\x01\0\x10java/lang/Object\x07\0\x01\0\x21\0\x02\0\0\0\0\0\0\0\0\0\0",
+        file: b"\xca\xfe\xba\xbe\0\0\0\x3d\0\x03\x01\0\x10java/lang/Object\x07\0\x01\
+            \0\x21\0\x02\0\0\0\0\0\0\0\0\0\0",
     },
 ];
 
@@ -120,9 +113,7 @@ fn writes_files(rt: HostRuntime) {
 }
 
 /// A of the superclass B and the superinterfaces P and Q, with the fields f and g.
-fn wide_class<R: Abort + AllocGlobal>(rt: &R) -> ClassDesc
-    ensures { HasNoAttributes result }
-{
+fn wide_class<R: Abort + AllocGlobal>(rt: &R) -> ClassDesc {
     let fields = [field_of(rt, b"f", b"I"), field_of(rt, b"g", b"J")];
     ClassDesc {
         minor: 0,
@@ -151,9 +142,7 @@ fn writes_superinterfaces_and_fields(rt: HostRuntime) {
 }
 
 /// Methods of the names m0, m1 and so on.
-fn numbered_methods<R: Abort + AllocGlobal>(rt: &R, count: u32) -> List<MethodDesc>
-    ensures { AllByRecursion (λ m. m.attrs ≡ []) result }
-{
+fn numbered_methods<R: Abort + AllocGlobal>(rt: &R, count: u32) -> List<MethodDesc> {
     let mut methods = Vec::new(rt.alloc());
     for number in 0..count {
         let name = format!(in rt.alloc(); "m{number}").expect(rt, "memory");
@@ -164,9 +153,7 @@ fn numbered_methods<R: Abort + AllocGlobal>(rt: &R, count: u32) -> List<MethodDe
 }
 
 /// A class whose pool needs five entries and one for each method.
-fn class_of_methods<R: Abort + AllocGlobal>(rt: &R, count: u32) -> ClassDesc
-    ensures { HasNoAttributes result }
-{
+fn class_of_methods<R: Abort + AllocGlobal>(rt: &R, count: u32) -> ClassDesc {
     ClassDesc {
         minor: 0,
         major: 61,

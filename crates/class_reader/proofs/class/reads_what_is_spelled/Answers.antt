@@ -1,4 +1,4 @@
-use Rattle.class_reader.proofs.Laws.{from_AreBytes}
+use Rattle.pool_reader.proofs.Laws.{from_AreBytes}
 use Rattle.class_reader.proofs.ClassLaws.{class_takes, class_again}
 use Rattle.class_reader.proofs.class.reads_what_is_spelled.Goals as goal
 
