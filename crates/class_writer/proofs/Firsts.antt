@@ -8,8 +8,8 @@ use Rattle.std.proofs.lemmas.List.Folds.{list_any-append}
 use Rattle.indexmap.specs.IndexSet.{insert_all}
 use Rattle.class_desc.specs.Layout.{firsts}
 
-filter_both : {K : Type 0} (p q : K → Bool) (xs : List K) → filter p (filter q xs)
-    ≡ filter (λ x. q x && p x) xs
+pub filter_both : {K : Type 0} (p q : K → Bool) (xs : List K)
+    → filter p (filter q xs) ≡ filter (λ x. q x && p x) xs
 filter_both p q [] = refl
 filter_both p q (x ∷ xs) =
     elim (q x) as (λ b. filter p (cond b (x ∷ filter q xs) (filter q xs))
@@ -18,8 +18,8 @@ filter_both p q (x ∷ xs) =
       | false ↦ filter_both p q xs
     ]
 
-filter_same : {K : Type 0} (p q : K → Bool) → ((x : K) → p x ≡ q x) → (xs : List K) →
-    filter p xs ≡ filter q xs
+pub filter_same : {K : Type 0} (p q : K → Bool) → ((x : K) → p x ≡ q x) → (xs : List K)
+    → filter p xs ≡ filter q xs
 filter_same p q h [] = refl
 filter_same p q h (x ∷ xs) = ap (λ b. cond b (x ∷ filter p xs) (filter p xs)) (h x)
     ∙ ap (λ ys. cond (q x) (x ∷ ys) ys) (filter_same p q h xs)
@@ -40,13 +40,13 @@ not_behind true qx qy h f = sym (h refl ∙ f)
 not_behind false qx qy h f = refl
 
 module _ {K : Type 0} (E : K → K → Bool) (laws : IsEquivalence E) where
-  firsts_filter : (q : K → Bool) → ((x y : K) → E x y ≡ true → q x ≡ q y) → (xs : List K) →
-      filter q (firsts E xs) ≡ firsts E (filter q xs)
+  firsts_filter : (q : K → Bool) → ((x y : K) → E x y ≡ true → q x ≡ q y) → (xs : List K)
+      → filter q (firsts E xs) ≡ firsts E (filter q xs)
   firsts_filter q respects [] = refl
   firsts_filter q respects (y ∷ ys) = by (q y) refl (firsts_filter q respects ys)
     where
-      by : (b : Bool) → q y ≡ b → filter q (firsts E ys) ≡ firsts E (filter q ys) →
-          filter q (firsts E (y ∷ ys)) ≡ firsts E (filter q (y ∷ ys))
+      by : (b : Bool) → q y ≡ b → filter q (firsts E ys) ≡ firsts E (filter q ys)
+          → filter q (firsts E (y ∷ ys)) ≡ firsts E (filter q (y ∷ ys))
       by true e rest =
           ap (λ b. cond b (y ∷ filter q (filter (λ x. not (E y x)) (firsts E ys)))
           (filter q (filter (λ x. not (E y x)) (firsts E ys)))) e
@@ -67,13 +67,13 @@ module _ {K : Type 0} (E : K → K → Bool) (laws : IsEquivalence E) where
   apart : (k x y : K) → E x y ≡ true → not (E k x) ≡ not (E k y)
   apart k x y h = ap not (laws.symm k x ∙ laws.congr x y k h ∙ laws.symm y k)
 
-  insert_all_after : (acc ks : List K) → insert_all E acc ks ≡ acc
-      ++ firsts E (filter (λ x. not (list_any (E x) acc)) ks)
+  insert_all_after : (acc ks : List K)
+      → insert_all E acc ks ≡ acc ++ firsts E (filter (λ x. not (list_any (E x) acc)) ks)
   insert_all_after acc [] = sym (append-nil acc)
   insert_all_after acc (k ∷ ks) = by (list_any (E k) acc) refl (λ more. insert_all_after more ks)
     where
-      by : (b : Bool) → list_any (E k) acc ≡ b →
-          ((more : List K) → insert_all E more ks ≡ more
+      by : (b : Bool) → list_any (E k) acc ≡ b
+          → ((more : List K) → insert_all E more ks ≡ more
           ++ firsts E (filter (λ x. not (list_any (E x) more)) ks))
           → insert_all E acc (k ∷ ks) ≡ acc
           ++ firsts E (filter (λ x. not (list_any (E x) acc)) (k ∷ ks))

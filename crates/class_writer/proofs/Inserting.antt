@@ -7,16 +7,16 @@ use Rattle.indexmap.specs.IndexSet.{insert_key, insert_all}
 
 module _ {K : Type 0} (E : K → K → Bool) where
   -- what is put in goes behind
-  one_behind : (pool : List K) (item : K) → (tail : List K)
-      × (insert_key E pool item ≡ pool ++ tail)
+  pub one_behind : (pool : List K) (item : K)
+      → (tail : List K) × (insert_key E pool item ≡ pool ++ tail)
   one_behind pool item = by (list_any (E item) pool)
     where
       by : (b : Bool) → (tail : List K) × (cond b pool (pool ++ item ∷ []) ≡ pool ++ tail)
       by true = ([], sym (append-nil pool))
       by false = (item ∷ [], refl)
 
-  pub all_behind : (pool items : List K) → (tail : List K)
-      × (insert_all E pool items ≡ pool ++ tail)
+  pub all_behind : (pool items : List K)
+      → (tail : List K) × (insert_all E pool items ≡ pool ++ tail)
   all_behind pool [] = ([], sym (append-nil pool))
   all_behind pool (item ∷ items) =
       let one = one_behind pool item in
@@ -26,10 +26,10 @@ module _ {K : Type 0} (E : K → K → Bool) where
             ∙ append_assoc pool one.0 rest.0,
       )
 
-  past_one : (item front : K) (pool : List K) → E item front ≡ false →
-      insert_key E (front ∷ pool) item ≡ front ∷ insert_key E pool item
-  past_one item front pool differs =
-      ap (λ b. cond (b || list_any (E item) pool) (front ∷ pool) (front ∷ (pool ++ item ∷ [])))
+  past_one : (item front : K) (pool : List K) → E item front ≡ false
+      → insert_key E (front ∷ pool) item ≡ front ∷ insert_key E pool item
+  past_one item front pool differs = ap
+      (λ b. cond (b || list_any (E item) pool) (front ∷ pool) (front ∷ (pool ++ item ∷ [])))
       differs ∙ by (list_any (E item) pool)
     where
       by : (b : Bool) → cond b (front ∷ pool) (front ∷ (pool ++ item ∷ [])) ≡ front
@@ -38,15 +38,16 @@ module _ {K : Type 0} (E : K → K → Bool) where
       by false = refl
 
   -- the place of an item, whatever goes behind
-  pub place_stays : IsEquivalence E → (item : K) (pool more : List K) →
-      position_or_len (E item) (insert_key E pool item ++ more) ≡ position_or_len (E item) pool
+  pub place_stays : IsEquivalence E → (item : K) (pool more : List K)
+      → position_or_len (E item) (insert_key E pool item ++ more) ≡ position_or_len (E item) pool
   place_stays laws item [] more = ap (λ b. cond (not b) (1 + position_or_len (E item) more) 0)
       (laws.refl item)
-  place_stays laws item (front ∷ pool) more =
-      by (E item front) refl (place_stays laws item pool more)
+  place_stays laws item (front ∷ pool) more = by (E item front) refl
+      (place_stays laws item pool more)
     where
-      by : (b : Bool) → E item front ≡ b →
-          position_or_len (E item) (insert_key E pool item ++ more) ≡ position_or_len (E item) pool
+      by : (b : Bool) → E item front ≡ b
+          → position_or_len (E item) (insert_key E pool item ++ more)
+          ≡ position_or_len (E item) pool
           → position_or_len (E item) (insert_key E (front ∷ pool) item ++ more)
           ≡ position_or_len (E item) (front ∷ pool)
       by true same rest =

@@ -1,20 +1,28 @@
-ghost use Rattle.std.specs.Prelude.{◌≡◌, length};
-ghost use Rattle.class_desc.specs.Layout.{class_needs, needs};
-ghost use Rattle.class_writer.specs.Refusal.{checked, first_refusal, text_refusal, super_refusal};
-ghost use Rattle.class_writer.specs.Refusal.{need_refusal, count_refusal, counts, field_refusal};
-ghost use Rattle.class_writer.specs.Refusal.{method_refusal};
+//! What two bytes, or four, can't hold.
+ghost use Rattle.std.specs.Prelude.{◌≡◌, map};
+ghost use Rattle.std.specs.List.{flat_map};
+ghost use Rattle.class_desc.specs.Layout.{with_its_text, item_needs};
+ghost use Rattle.class_writer.specs.Seen.{need_seen, item_seen};
+ghost use Rattle.class_writer.specs.Refusal.{checked, first_refusal, text_refusal, need_refusal};
+ghost use Rattle.class_writer.specs.Refusal.{above, item_refusal};
 
 use crate::error::PoolErr;
-use class_desc::{ClassDesc, FieldDesc, MethodDesc};
-use hdr_core::Text;
+use crate::item::Item;
+use crate::need::Need;
+
+/// The greatest number that one byte holds.
+const MOST_PARAMETERS: usize = 255;
 
 /// The greatest number that two bytes hold.
 const MOST: usize = 65_535;
 
-fn check_text(text: &Text) -> Result<(), PoolErr>
+/// The greatest number that four bytes hold.
+const MOST_BYTES: usize = 4_294_967_295;
+
+fn check_text(text: &[u8]) -> Result<(), PoolErr>
     ensures { result ≡ checked (text_refusal text.now) }
 {
-    let length = text.bytes().len();
+    let length = text.len();
     if length > MOST {
         return Err(PoolErr::TextTooLong {
             length: length as u64,
@@ -23,60 +31,41 @@ fn check_text(text: &Text) -> Result<(), PoolErr>
     Ok(())
 }
 
-fn check_super(name: &Option<Text>) -> Result<(), PoolErr>
-    ensures { result ≡ checked (super_refusal name.now) }
+fn check_need(need: &Need<'_>) -> Result<(), PoolErr>
+    ensures { result ≡ checked (first_refusal need_refusal (with_its_text (need_seen need.now))) }
 {
-    match name {
-        Some(name) => check_text(name),
-        None => Ok(()),
+    match need {
+        Need::Text(text) => check_text(text),
+        Need::Class(name) => check_text(name),
+        Need::String(text) => check_text(text),
+        Need::Number(_, _) => Ok(()),
     }
 }
 
-fn check_names(names: &[Text]) -> Result<(), PoolErr>
-    ensures { result ≡ checked (first_refusal text_refusal names.now) }
+fn check_text_of(item: &Item<'_>) -> Result<(), PoolErr>
+    ensures { result ≡ checked (first_refusal need_refusal (item_needs (item_seen item.now))) }
 {
-    for name in names {
-        check_text(name)?;
+    match item {
+        Item::EntryNumber(need) => check_need(need),
+        _ => Ok(()),
     }
-    Ok(())
-}
-
-fn check_fields(fields: &[FieldDesc]) -> Result<(), PoolErr>
-    ensures { result ≡ checked (first_refusal field_refusal fields.now) }
-{
-    for field in fields {
-        check_text(&field.name)?;
-        check_text(&field.descriptor)?;
-    }
-    Ok(())
-}
-
-fn check_methods(methods: &[MethodDesc]) -> Result<(), PoolErr>
-    ensures { result ≡ checked (first_refusal method_refusal methods.now) }
-{
-    for method in methods {
-        check_text(&method.name)?;
-        check_text(&method.descriptor)?;
-    }
-    Ok(())
 }
 
 /// That two bytes hold the length of each text, in the order of the file.
-#[tactic(auto, using(crate::proofs::Refusals::texts_refusal))]
-pub fn check_texts(desc: &ClassDesc) -> Result<(), PoolErr>
-    ensures { result ≡ checked (first_refusal need_refusal (needs desc.now)) }
+pub fn check_texts(items: &[Item<'_>]) -> Result<(), PoolErr>
+    ensures { result
+        ≡ checked (first_refusal need_refusal (flat_map item_needs (map item_seen items.now))) }
 {
-    check_text(&desc.name)?;
-    check_super(&desc.super_name)?;
-    check_names(desc.interfaces.items())?;
-    check_fields(desc.fields.items())?;
-    check_methods(desc.methods.items())
+    for item in items {
+        check_text_of(item)?;
+    }
+    Ok(())
 }
 
-fn check_count(count: usize) -> Result<(), PoolErr>
-    ensures { result ≡ checked (count_refusal count) }
+fn check_most(most: usize, count: usize) -> Result<(), PoolErr>
+    ensures { result ≡ checked (above most count) }
 {
-    if count > MOST {
+    if count > most {
         return Err(PoolErr::TooMany {
             count: count as u64,
         });
@@ -84,11 +73,23 @@ fn check_count(count: usize) -> Result<(), PoolErr>
     Ok(())
 }
 
-/// That two bytes hold the length of each list, in the order of the file.
-pub fn check_counts(desc: &ClassDesc) -> Result<(), PoolErr>
-    ensures { result ≡ checked (first_refusal count_refusal (counts desc.now)) }
+fn check_count(item: &Item<'_>) -> Result<(), PoolErr>
+    ensures { result ≡ checked (item_refusal (item_seen item.now)) }
 {
-    check_count(desc.interfaces.items().len())?;
-    check_count(desc.fields.items().len())?;
-    check_count(desc.methods.items().len())
+    match item {
+        Item::ParameterCount(count) => check_most(MOST_PARAMETERS, *count),
+        Item::Count(count) => check_most(MOST, *count),
+        Item::BodyLength(bytes) => check_most(MOST_BYTES, *bytes),
+        _ => Ok(()),
+    }
+}
+
+/// That its field holds each count and each length, in the order of the file.
+pub fn check_counts(items: &[Item<'_>]) -> Result<(), PoolErr>
+    ensures { result ≡ checked (first_refusal item_refusal (map item_seen items.now)) }
+{
+    for item in items {
+        check_count(item)?;
+    }
+    Ok(())
 }

@@ -6,7 +6,10 @@ ghost use Rattle.class_writer.specs.declared.error.PoolErr.TheVariants.{Memory};
 pub enum PoolErr {
     /// A text has more than 65,535 bytes (JVMS 4.4.7): the first in the order of the file.
     TextTooLong { length: u64 },
-    /// A list has more than 65,535 entries (JVMS 4.1): the first in the order of the file.
+    /// A list has more entries than its field holds, 255 for parameters (JVMS 4.7.18, 4.7.19,
+    /// 4.7.24) and else 65,535, or the body of an attribute more than 4,294,967,295 bytes (JVMS
+    /// 4.7): the first in the order of the file. A size is told up to the greatest number of 64
+    /// bits.
     TooMany { count: u64 },
     /// The pool needs more than 65,534 numbers (JVMS 4.1).
     PoolFull { needed: u64 },

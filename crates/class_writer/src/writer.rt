@@ -1,229 +1,218 @@
-ghost use Rattle.std.specs.Prelude.{◌≡◌, [], ◌∷◌, ◌++◌, OnOk, IfOk, length};
-ghost use Rattle.std.specs.Int.{w16, to_be_bytes};
-ghost use Rattle.std.specs.List.{flat_map};
-ghost use Rattle.class_desc.specs.Pool.{entry_bytes};
-ghost use Rattle.class_desc.specs.Layout.{TextNeed, ClassNeed, class_needs, super_needs};
-ghost use Rattle.class_desc.specs.Layout.{field_needs, method_needs, needs, entry_in, number_in};
-ghost use Rattle.class_desc.specs.Layout.{member_bytes, field_bytes, method_bytes};
-ghost use Rattle.class_writer.specs.Writing.{Writes, need_seen, number_bytes, class_number_bytes};
-ghost use Rattle.class_writer.specs.Writing.{super_bytes, body_bytes, pool_bytes, file_of_draft};
+ghost use Rattle.std.specs.Prelude.{◌≡◌, [], ◌∷◌, ◌++◌, OnOk, IfOk, length, map};
+ghost use Rattle.std.specs.Int.{w32, w64, to_be_bytes};
+ghost use Rattle.class_desc.specs.Layout.{TextNeed, ClassNeed, StringNeed, NumberNeed};
+ghost use Rattle.class_desc.specs.Layout.{bits_bytes, number_tag};
+ghost use Rattle.class_writer.specs.Slots.{Held, need_slots};
+ghost use Rattle.class_writer.specs.Seen.{kind_seen, need_seen, slot_seen, item_seen};
+ghost use Rattle.class_writer.specs.Writing.{Writes, Takes, FindsSlot, IsNumberOf, file_of_draft};
 ghost use Rattle.class_writer.specs.Refusal.{checked, pool_refusal};
 
+use crate::big_endian::{put_u8, put_u16, put_u32};
 use crate::error::PoolErr;
-use crate::key::Key;
-use class_desc::{ClassDesc, FieldDesc, MethodDesc};
-use hdr_core::{Memory, Text};
+use crate::item::Item;
+use crate::need::{Need, NumberKind, Slot};
+use hdr_core::Memory;
 use indexmap::IndexSet;
 use std::alloc::Global;
 use std::marker::Model;
 
-/// The tag of a text in the pool (JVMS 4.4.7).
+/// The tags of the pool (JVMS table 4.4-A).
 const UTF8: u8 = 1;
 
-/// The tag of a class in the pool (JVMS 4.4.1).
+const INTEGER: u8 = 3;
+
+const FLOAT: u8 = 4;
+
+const LONG: u8 = 5;
+
+const DOUBLE: u8 = 6;
+
 const CLASS: u8 = 7;
+
+const STRING: u8 = 8;
 
 const MAGIC: u32 = 0xcafe_babe;
 
-/// The greatest number of entries: the count of the pool is one more.
-const MOST_ENTRIES: usize = 65_534;
+/// How many bytes stand before the pool, with its count.
+const HEAD: usize = 10;
 
-/// Writes the low 16 bits of a number, the high byte first.
-pub fn put_u16(out: &mut Vec<u8>, number: usize) -> Result<(), Memory>
-    ensures { OnOk result (out.new.items ≡ out.old.items ++ to_be_bytes w16 number) }
-{
-    let bytes = (number as u64).to_be_bytes();
-    out.extend_from_slice(&bytes[6..])?;
-    Ok(())
-}
+/// The most numbers that a pool has: its count is one more.
+const MOST_NUMBERS: usize = 65_534;
 
-/// A class file in the making: the pool so far, and what stands behind the pool.
+/// How many numbers, and how many bytes of entries, there is room for at first: those of a plain
+/// class.
+const ROOM: usize = 64;
+
+const ROOM_OF_ENTRIES: usize = 1_024;
+
+/// A class file in the making: the pool by its numbers, its bytes, and what stands behind it.
 ///
 /// A number above 65,535 is written by its low 16 bits: the pool is refused in the end.
 #[derive(Drop)]
 pub struct ClassWriter<'a> {
-    keys: IndexSet<Key<'a>>,
-    bytes: Vec<u8>,
+    slots: IndexSet<Slot<'a>>,
+    entries: Vec<u8>,
+    body: Vec<u8>,
 }
 
 impl<'a> Model for ClassWriter<'a> {
     ghost use Rattle.std.specs.Prelude.{map};
-    ghost use Rattle.class_writer.specs.Writing.{Draft, need_seen};
+    ghost use Rattle.class_writer.specs.Seen.{slot_seen};
+    ghost use Rattle.class_writer.specs.Writing.{Draft};
 
     ghost Value = { Draft };
 
     ghost view = { λ writer. record {
-      pool = map need_seen writer.keys.keys;
-      body =
-          writer.bytes.items;
+      pool = map slot_seen writer.slots.keys;
+      entries = writer.entries.items;
+      body = writer.body.items;
     } };
 }
 
 impl<'a> ClassWriter<'a> {
-    pub fn new(alloc: Global) -> ClassWriter<'a>
-        ensures { result ≡ record { pool = []; body = [] } }
+    /// With room for what stands behind the pool, which has this size.
+    pub fn new(alloc: Global, size: usize) -> Result<ClassWriter<'a>, Memory>
+        ensures { IfOk result (λ writer. writer ≡ record { pool = []; entries = []; body = [] }) }
     {
-        ClassWriter {
-            keys: IndexSet::new(alloc),
-            bytes: Vec::new(alloc),
+        Ok(ClassWriter {
+            slots: IndexSet::with_capacity(alloc, ROOM)?,
+            entries: Vec::with_capacity(alloc, ROOM_OF_ENTRIES)?,
+            body: Vec::with_capacity(alloc, size)?,
+        })
+    }
+
+    /// The number of what is at a number of the pool, the next one where it isn't there yet, and
+    /// whether it is new.
+    fn find(&mut self, slot: Slot<'a>) -> Result<(usize, bool), Memory>
+        ensures { IfOk result
+            (λ found. FindsSlot (slot_seen slot.entry) found.0 found.1 self.old self.new) }
+    {
+        let (index, is_new) = self.slots.insert_full(slot)?;
+        prove!(index < self.slots.len());
+        Ok((index + 1, is_new))
+    }
+
+    fn text(&mut self, text: &'a [u8]) -> Result<usize, Memory>
+        ensures takes { OnOk result (Takes (need_slots (TextNeed text.now)) self.old self.new) }
+        ensures number { IfOk result (IsNumberOf (TextNeed text.now) self.new) }
+    {
+        let (number, is_new) = self.find(Slot::Held(Need::Text(text)))?;
+        if is_new {
+            self.entries.push(UTF8)?;
+            put_u16(&mut self.entries, text.len())?;
+            self.entries.extend_from_slice(text)?;
         }
+        Ok(number)
     }
 
-    /// Writes a number that needs nothing: flags or a count.
-    pub fn number(&mut self, number: usize) -> Result<(), Memory>
-        ensures { OnOk result (Writes [] (λ _. to_be_bytes w16 number) self.old self.new) }
+    /// Right behind its name, where that is new.
+    fn class(&mut self, name: &'a [u8]) -> Result<usize, Memory>
+        ensures takes { OnOk result (Takes (need_slots (ClassNeed name.now)) self.old self.new) }
+        ensures number { IfOk result (IsNumberOf (ClassNeed name.now) self.new) }
     {
-        put_u16(&mut self.bytes, number)
-    }
-
-    /// Puts an entry into the pool, and writes nothing.
-    fn need(&mut self, key: Key<'a>) -> Result<(), Memory>
-        ensures { OnOk result (Writes (need_seen key.entry ∷ []) (λ _. []) self.old self.new) }
-    {
-        self.keys.insert(key)?;
-        Ok(())
-    }
-
-    /// Puts an entry into the pool, and writes its number.
-    fn entry(&mut self, key: Key<'a>) -> Result<(), Memory>
-        ensures { OnOk result (Writes (need_seen key.entry ∷ [])
-            (number_bytes (need_seen key.entry)) self.old self.new) }
-    {
-        let (index, _) = self.keys.insert_full(key)?;
-        prove!(index < self.keys.len());
-        put_u16(&mut self.bytes, index + 1)
-    }
-
-    fn text(&mut self, text: &'a Text) -> Result<(), Memory>
-        ensures { OnOk result (Writes (TextNeed text.now ∷ []) (number_bytes (TextNeed text.now))
-            self.old self.new) }
-    {
-        self.entry(Key::Text(text.bytes()))
-    }
-
-    /// A class right behind its name.
-    fn class(&mut self, name: &'a Text) -> Result<(), Memory>
-        ensures { OnOk result (Writes (class_needs name.now) (number_bytes (ClassNeed name.now))
-            self.old self.new) }
-    {
-        self.need(Key::Text(name.bytes()))?;
-        self.entry(Key::Class(name.bytes()))
-    }
-
-    /// The superclass, or 0 where there is none (JVMS 4.1).
-    fn super_class(&mut self, name: &'a Option<Text>) -> Result<(), Memory>
-        ensures { OnOk result (Writes (super_needs name.now) (super_bytes name.now) self.old
-            self.new) }
-    {
-        match name {
-            Some(name) => self.class(name),
-            None => self.number(0),
+        let text = self.text(name)?;
+        let (number, is_new) = self.find(Slot::Held(Need::Class(name)))?;
+        if is_new {
+            self.entries.push(CLASS)?;
+            put_u16(&mut self.entries, text)?;
         }
+        Ok(number)
     }
 
-    /// A field or a method, with no attributes (JVMS 4.5, 4.6).
-    fn member(&mut self, flags: u16, name: &'a Text, descriptor: &'a Text) -> Result<(), Memory>
-        ensures { OnOk result (Writes (TextNeed name.now ∷ TextNeed descriptor.now ∷ [])
-            (λ pool. member_bytes pool flags name.now descriptor.now) self.old self.new) }
+    /// Right behind its text, where that is new.
+    fn string(&mut self, text: &'a [u8]) -> Result<usize, Memory>
+        ensures takes { OnOk result (Takes (need_slots (StringNeed text.now)) self.old self.new) }
+        ensures number { IfOk result (IsNumberOf (StringNeed text.now) self.new) }
     {
-        self.number(usize::from(flags))?;
-        self.text(name)?;
-        self.text(descriptor)?;
-        self.number(0)
-    }
-
-    fn class_list(&mut self, names: &'a [Text]) -> Result<(), Memory>
-        ensures { OnOk result (Writes (flat_map class_needs names.now)
-            (λ pool. flat_map (class_number_bytes pool) names.now) self.old self.new) }
-    {
-        for name in names {
-            self.class(name)?;
+        let text_number = self.text(text)?;
+        let (number, is_new) = self.find(Slot::Held(Need::String(text)))?;
+        if is_new {
+            self.entries.push(STRING)?;
+            put_u16(&mut self.entries, text_number)?;
         }
-        Ok(())
+        Ok(number)
     }
 
-    fn field_list(&mut self, fields: &'a [FieldDesc]) -> Result<(), Memory>
-        ensures { OnOk result (Writes (flat_map field_needs fields.now)
-            (λ pool. flat_map (field_bytes pool) fields.now) self.old self.new) }
+    fn number_alone(&mut self, kind: NumberKind, bits: u64) -> Result<usize, Memory>
+        ensures takes { OnOk result
+            (Takes (Held (NumberNeed (kind_seen kind) bits) ∷ []) self.old self.new) }
+        ensures number { IfOk result (IsNumberOf (NumberNeed (kind_seen kind) bits) self.new) }
     {
-        for field in fields {
-            self.member(field.flags, &field.name, &field.descriptor)?;
+        let (number, is_new) = self.find(Slot::Held(Need::Number(kind, bits)))?;
+        if is_new {
+            put_number(&mut self.entries, kind, bits)?;
         }
-        Ok(())
+        Ok(number)
     }
 
-    fn method_list(&mut self, methods: &'a [MethodDesc]) -> Result<(), Memory>
-        ensures { OnOk result (Writes (flat_map method_needs methods.now)
-            (λ pool. flat_map (method_bytes pool) methods.now) self.old self.new) }
+    /// A long and a double take the number behind theirs too (JVMS 4.4.5).
+    fn number(&mut self, kind: NumberKind, bits: u64) -> Result<usize, Memory>
+        ensures takes { OnOk result
+            (Takes (need_slots (NumberNeed (kind_seen kind) bits)) self.old self.new) }
+        ensures number { IfOk result (IsNumberOf (NumberNeed (kind_seen kind) bits) self.new) }
     {
-        for method in methods {
-            self.member(method.flags, &method.name, &method.descriptor)?;
-        }
-        Ok(())
-    }
-
-    /// What stands behind the pool, in the order of JVMS 4.1. Nothing has attributes.
-    pub fn body(&mut self, desc: &'a ClassDesc) -> Result<(), Memory>
-        ensures { OnOk result (Writes (needs desc.now) (body_bytes desc.now) self.old self.new) }
-    {
-        self.number(usize::from(desc.flags))?;
-        self.class(&desc.name)?;
-        self.super_class(&desc.super_name)?;
-        let interfaces = desc.interfaces.items();
-        self.number(interfaces.len())?;
-        self.class_list(interfaces)?;
-        let fields = desc.fields.items();
-        self.number(fields.len())?;
-        self.field_list(fields)?;
-        let methods = desc.methods.items();
-        self.number(methods.len())?;
-        self.method_list(methods)?;
-        self.number(0)
-    }
-
-    /// The number of an entry that is in the pool: they count from 1 (JVMS 4.1).
-    fn number_of(&self, key: &Key<'a>) -> usize
-        ensures { result ≡ number_in self.now.pool (need_seen key.now) }
-    {
-        self.keys.get_index_of(key).unwrap_or(self.keys.len()) + 1
-    }
-
-    /// Writes an entry of the pool (JVMS 4.4.7, 4.4.1).
-    fn put_entry(&self, out: &mut Vec<u8>, key: &Key<'a>) -> Result<(), Memory>
-        ensures { OnOk result (out.new.items ≡ out.old.items
-            ++ entry_bytes (entry_in self.now.pool (need_seen key.now))) }
-    {
-        match key {
-            Key::Text(text) => {
-                out.push(UTF8)?;
-                put_u16(out, text.len())?;
-                out.extend_from_slice(text)?;
-                Ok(())
+        let number = self.number_alone(kind, bits)?;
+        match kind {
+            NumberKind::Integer => Ok(number),
+            NumberKind::Float => Ok(number),
+            NumberKind::Long => {
+                self.find(Slot::BehindLong(bits))?;
+                Ok(number)
             }
-            Key::Class(name) => {
-                out.push(CLASS)?;
-                put_u16(out, self.number_of(&Key::Text(name)))
+            NumberKind::Double => {
+                self.find(Slot::BehindDouble(bits))?;
+                Ok(number)
             }
         }
     }
 
-    /// Writes the pool behind its count (JVMS 4.1).
-    fn put_pool(&self, out: &mut Vec<u8>) -> Result<(), Memory>
-        ensures { OnOk result (out.new.items ≡ out.old.items ++ pool_bytes self.now.pool) }
+    /// The number of an entry, which goes into the pool where it isn't there yet.
+    fn entry(&mut self, need: Need<'a>) -> Result<usize, Memory>
+        ensures takes { OnOk result (Takes (need_slots (need_seen need.entry)) self.old self.new) }
+        ensures number { IfOk result (IsNumberOf (need_seen need.entry) self.new) }
     {
-        put_u16(out, self.keys.len() + 1)?;
-        for key in self.keys.iter() {
-            self.put_entry(out, key)?;
+        match need {
+            Need::Text(text) => self.text(text),
+            Need::Class(name) => self.class(name),
+            Need::String(text) => self.string(text),
+            Need::Number(kind, bits) => self.number(kind, bits),
+        }
+    }
+
+    fn item(&mut self, item: &Item<'a>) -> Result<(), Memory>
+        ensures { OnOk result (Writes (item_seen item.now ∷ []) self.old self.new) }
+    {
+        match item {
+            Item::Tag(tag) => self.body.push(*tag)?,
+            Item::Flags(flags) => put_u16(&mut self.body, usize::from(*flags))?,
+            Item::ParameterCount(count) => put_u8(&mut self.body, *count)?,
+            Item::Count(count) => put_u16(&mut self.body, *count)?,
+            Item::BodyLength(bytes) => put_u32(&mut self.body, *bytes as u64)?,
+            Item::EntryNumber(need) => {
+                let number = self.entry(*need)?;
+                put_u16(&mut self.body, number)?;
+            }
+            Item::NoEntry => put_u16(&mut self.body, 0)?,
         }
         Ok(())
     }
 
-    /// That the pool has no more entries than its count holds (JVMS 4.1).
+    /// Writes what stands behind the pool, and puts what it needs into the pool.
+    pub fn write(&mut self, items: &[Item<'a>]) -> Result<(), Memory>
+        ensures { OnOk result (Writes (map item_seen items.now) self.old self.new) }
+    {
+        for item in items {
+            self.item(item)?;
+        }
+        Ok(())
+    }
+
+    /// That the pool has no more numbers than its count holds (JVMS 4.1).
     pub fn check_pool(&self) -> Result<(), PoolErr>
         ensures { result ≡ checked (pool_refusal (length self.now.pool)) }
     {
-        let needed = self.keys.len();
-        if needed > MOST_ENTRIES {
+        let needed = self.slots.len();
+        if needed > MOST_NUMBERS {
             return Err(PoolErr::PoolFull {
                 needed: needed as u64,
             });
@@ -235,11 +224,44 @@ impl<'a> ClassWriter<'a> {
     pub fn file(&self, alloc: Global, minor: u16, major: u16) -> Result<Vec<u8>, Memory>
         ensures { IfOk result (λ file. file.items ≡ file_of_draft minor major self.now) }
     {
-        let mut file = Vec::from_slice(alloc, &MAGIC.to_be_bytes())?;
+        let size = HEAD
+            .saturating_add(self.entries.len())
+            .saturating_add(self.body.len());
+        let mut file = Vec::with_capacity(alloc, size)?;
+        file.extend_from_slice(&MAGIC.to_be_bytes())?;
         put_u16(&mut file, usize::from(minor))?;
         put_u16(&mut file, usize::from(major))?;
-        self.put_pool(&mut file)?;
-        file.extend_from_slice(&self.bytes)?;
+        put_u16(&mut file, self.slots.len() + 1)?;
+        file.extend_from_slice(&self.entries)?;
+        file.extend_from_slice(&self.body)?;
         Ok(file)
     }
+}
+
+/// Writes a number of the pool behind its tag (JVMS 4.4.4, 4.4.5).
+fn put_number(out: &mut Vec<u8>, kind: NumberKind, bits: u64) -> Result<(), Memory>
+    ensures { OnOk result (out.new.items
+        ≡ out.old.items ++ number_tag (kind_seen kind) ∷ bits_bytes (kind_seen kind) bits) }
+{
+    match kind {
+        NumberKind::Integer => put_narrow(out, INTEGER, bits),
+        NumberKind::Float => put_narrow(out, FLOAT, bits),
+        NumberKind::Long => put_wide(out, LONG, bits),
+        NumberKind::Double => put_wide(out, DOUBLE, bits),
+    }
+}
+
+fn put_narrow(out: &mut Vec<u8>, tag: u8, bits: u64) -> Result<(), Memory>
+    ensures { OnOk result (out.new.items ≡ out.old.items ++ tag ∷ to_be_bytes w32 bits) }
+{
+    out.push(tag)?;
+    put_u32(out, bits)
+}
+
+fn put_wide(out: &mut Vec<u8>, tag: u8, bits: u64) -> Result<(), Memory>
+    ensures { OnOk result (out.new.items ≡ out.old.items ++ tag ∷ to_be_bytes w64 bits) }
+{
+    out.push(tag)?;
+    out.extend_from_slice(&bits.to_be_bytes())?;
+    Ok(())
 }

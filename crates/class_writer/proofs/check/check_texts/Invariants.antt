@@ -1,0 +1,12 @@
+use Rattle.std.proofs.Common.{◌≡◌, drop, map}
+use Rattle.std.specs.List.{flat_map}
+use Rattle.class_desc.specs.Layout.{item_needs}
+use Rattle.class_writer.specs.Refusal.{first_refusal, need_refusal}
+use Rattle.class_writer.specs.Seen.{item_seen}
+use Rattle.class_writer.proofs.check.check_texts.Given as goal
+
+-- those that were gone over are not refused
+abbrev pub invariant-loop-item : goal.invariant-loop-item
+invariant-loop-item l =
+    first_refusal need_refusal (flat_map item_needs (map item_seen l.items))
+    ≡ first_refusal need_refusal (flat_map item_needs (map item_seen (drop l.item-index l.items)))
