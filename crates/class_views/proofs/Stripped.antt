@@ -5,7 +5,7 @@ use Rattle.std.proofs.Common.{subst, append_assoc}
 use Rattle.std.specs.List.{flat_map}
 use Rattle.std.specs.Int.{w16, w32, to_be_bytes}
 use Rattle.class_desc.specs.declared.class.ClassDesc.{ClassDesc}
-use Rattle.class_desc.specs.Pool.{Entry, entry_bytes}
+use Rattle.class_desc.specs.Pool.{Entry, entry_bytes, numbered}
 use Rattle.class_desc.specs.ClassFile.{FieldSpells, MethodSpells, is_key, field_key, method_key}
 use Rattle.class_desc.specs.ClassFile.{Parts, magic, file_bytes, IsValid}
 use Rattle.class_views.specs.Strip.{stays_field, stays_method, strip_attribute, strip_class}
@@ -16,7 +16,7 @@ use Rattle.class_views.proofs.Filtered.{AreBytes, distinct_stay, counted_stay}
 before_members : ClassDesc → List Entry → Parts → List ℕ
 before_members d pool p =
     to_be_bytes w32 magic ++ (to_be_bytes w16 d.minor ++ (to_be_bytes w16 d.major
-    ++ (to_be_bytes w16 (length pool + 1) ++ (flat_map entry_bytes pool
+    ++ (to_be_bytes w16 (length (numbered pool) + 1) ++ (flat_map entry_bytes pool
     ++ (to_be_bytes w16 d.flags ++ (to_be_bytes w16 p.this ++ (to_be_bytes w16 p.super
     ++ (to_be_bytes w16 (length p.interfaces) ++ flat_map (to_be_bytes w16) p.interfaces))))))))
 
@@ -30,9 +30,10 @@ in_two : (d : ClassDesc) (pool : List Entry) (p : Parts) → file_bytes d pool p
 unfolding before_members
 in_two d pool p =
     regrouped (to_be_bytes w32 magic) (to_be_bytes w16 d.minor) (to_be_bytes w16 d.major)
-    (to_be_bytes w16 (length pool + 1)) (flat_map entry_bytes pool) (to_be_bytes w16 d.flags)
-    (to_be_bytes w16 p.this) (to_be_bytes w16 p.super) (to_be_bytes w16 (length p.interfaces))
-    (flat_map (to_be_bytes w16) p.interfaces) (p.fields ++ (p.methods ++ p.attributes))
+    (to_be_bytes w16 (length (numbered pool) + 1)) (flat_map entry_bytes pool)
+    (to_be_bytes w16 d.flags) (to_be_bytes w16 p.this) (to_be_bytes w16 p.super)
+    (to_be_bytes w16 (length p.interfaces)) (flat_map (to_be_bytes w16) p.interfaces)
+    (p.fields ++ (p.methods ++ p.attributes))
 
 pub stripped_valid : (d : ClassDesc) → IsValid d → IsValid (strip_class d)
 unfolding before_members

@@ -18,7 +18,8 @@ module _ {A B : Type 0} (f : A → B) (t : A → Bool) (u : B → Bool) (e : (x 
   where
     any_mapped : (xs : List A) → list_any t xs ≡ list_any u (map f xs)
     any_mapped [] = refl
-    any_mapped (x ∷ xs) = ap (λ a. a || list_any t xs) (e x) ∙ ap (λ b. u (f x) || b) (any_mapped xs)
+    any_mapped (x ∷ xs) = ap (λ a. a || list_any t xs) (e x)
+        ∙ ap (λ b. u (f x) || b) (any_mapped xs)
 
     filter_mapped : (xs : List A) → map f (filter t xs) ≡ filter u (map f xs)
     filter_mapped [] = refl
@@ -42,8 +43,8 @@ module _ {A : Type 0} (f : A → Linked) (starts : A → Bool) (names : A → A 
         → stays_beside starts names left x ≡ stays_beside begins leads_to there (f x)
     test_mapped left there e x =
         ap (λ a. a || list_any (λ one. names one x) left) (b x)
-        ∙ ap (λ c. begins (f x) || c) (any_mapped f (λ one. names one x) (λ one. leads_to one (f x))
-        (λ one. n one x) left
+        ∙ ap (λ c. begins (f x) || c)
+        (any_mapped f (λ one. names one x) (λ one. leads_to one (f x)) (λ one. n one x) left
         ∙ ap (list_any (λ one. leads_to one (f x))) e)
 
     after_mapped : (items : List A) (rounds : ℕ) → map f (staying_after starts names items rounds)

@@ -152,8 +152,8 @@ module _ (links : List Linked) where
               let level : length (take n (names_of links)) ≡ n =
               length-take-le n (names_of links) (omega arith) in
               let below : m < length (take n (names_of links)) = found.0 in
-              let e : name_at m ≡ name_at n = sym (get_or-take n (names_of links) m [] (omega arith))
-              ∙ found.1 in
+              let e : name_at m ≡ name_at n =
+              sym (get_or-take n (names_of links) m [] (omega arith)) ∙ found.1 in
               has_intro m (subst AllStay (sym e) (has_elim n is))
               )
           | inr places ↦ (

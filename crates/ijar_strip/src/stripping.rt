@@ -55,21 +55,21 @@ pub fn into_stripped(alloc: Global, desc: ClassDesc) -> Result<ClassDesc, Memory
     })
 }
 
-fn copied_class(alloc: Global, desc: &ClassDesc, is_kept: bool) -> Result<Option<ClassDesc>, Memory>
+fn copied_class(alloc: Global, desc: &ClassDesc, kept: bool) -> Result<Option<ClassDesc>, Memory>
     ensures { IfOk result (λ class.
-        class ≡ (if is_kept then Some (strip_class desc.now) else None)) }
+        class ≡ (if kept then Some (strip_class desc.now) else None)) }
 {
-    if is_kept {
+    if kept {
         Ok(Some(strip(alloc, desc)?))
     } else {
         Ok(None)
     }
 }
 
-fn kept_class(alloc: Global, desc: ClassDesc, is_kept: bool) -> Result<Option<ClassDesc>, Memory>
-    ensures { IfOk result (λ class. class ≡ (if is_kept then Some (strip_class desc) else None)) }
+fn kept_class(alloc: Global, desc: ClassDesc, kept: bool) -> Result<Option<ClassDesc>, Memory>
+    ensures { IfOk result (λ class. class ≡ (if kept then Some (strip_class desc) else None)) }
 {
-    if is_kept {
+    if kept {
         Ok(Some(into_stripped(alloc, desc)?))
     } else {
         Ok(None)

@@ -1,9 +1,10 @@
 //! Classes as lines of words, to descriptions and back.
 //!
 //! A line begins with the class's name. `extends=X`, `implements=X`, `permits=X`, `signature=S`,
-//! `field=f`, `private-field=f`, `method=m`, `private-method=m` and `interface` say what they mean;
-//! a method is `m!E` where it throws E, and `m:D` where its descriptor is D and not `()V`. `inner` begins an InnerClasses, whose entries follow: `entry=I`, or
-//! `entry=I!O` with the outer class O.
+//! `field=f`, `private-field=f`, `method=m`, `private-method=m` and `interface` say what they
+//! mean; a method is `m!E` where it throws E, and `m:D` where its descriptor is D and not `()V`.
+//! `inner` begins an InnerClasses, whose entries follow: `entry=I`, or `entry=I!O` with the outer
+//! class O.
 use class_desc::{Attr, ClassDesc, FieldDesc, InnerEntry, MethodDesc, Value};
 use hdr_core::{List, Text};
 use std::mem;
