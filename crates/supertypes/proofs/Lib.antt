@@ -1,0 +1,12 @@
+pub mod Entered
+pub mod Gathered
+pub mod Leaving
+pub mod Marked
+pub mod Runs
+pub mod Settled
+pub mod Shown
+pub mod Stepped
+pub mod Turns
+pub mod Walked
+pub mod Ways
+pub mod Work

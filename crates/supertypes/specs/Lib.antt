@@ -1,0 +1,7 @@
+pub mod Found
+pub mod Going
+pub mod Rings
+pub mod State
+pub mod Walk
+pub mod Walking
+pub mod Ways
