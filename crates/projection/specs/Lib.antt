@@ -1,0 +1,3 @@
+pub mod ShowsLess
+pub mod Stripping
+pub mod Survives
