@@ -1,0 +1,17 @@
+pub mod Above
+pub mod Answered
+pub mod Classes
+pub mod Firsts
+pub mod Graphs
+pub mod Inside
+pub mod Meeting
+pub mod Numbered
+pub mod Placed
+pub mod Repeats
+pub mod Rings
+pub mod Rowed
+pub mod Said
+pub mod Slashes
+pub mod Starts
+pub mod Told
+pub mod Walks

@@ -1,0 +1,5 @@
+pub mod Indexed
+pub mod Members
+pub mod Numbers
+pub mod Refusals
+pub mod Replies
