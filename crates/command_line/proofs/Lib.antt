@@ -1,3 +1,4 @@
+pub mod PathValues
 pub mod Places
 pub mod Trimmed
 pub mod Values

@@ -17,7 +17,7 @@ refusal_seen (refusal.Archive word) = Archive word.now
 refusal_seen refusal.Help = Help
 
 abbrev pub command_seen : ReadCommand → Command
-command_seen (command.Ijar input output) = Ijar input.now output.now
+command_seen (command.Ijar inputs output) = Ijar (map (λ text. text.now) inputs.items) output.now
 
 abbrev pub maybe_command_seen : Option ReadCommand → Option Command
 maybe_command_seen None = None
@@ -44,6 +44,10 @@ option_seen (Some o) = Some (o.0.now, o.1.now, map string_bytes o.2.now)
 
 abbrev pub texts : List (Bor (List ℕ)) → List (List ℕ)
 texts = map (λ text. text.now)
+
+abbrev pub maybe_texts_seen : Option (Vec (Bor (List ℕ)) Global) → Option (List (List ℕ))
+maybe_texts_seen None = None
+maybe_texts_seen (Some found) = Some (texts found.items)
 
 abbrev pub values_seen : List (Vec (Bor (List ℕ)) Global) → List (List (List ℕ))
 values_seen = map (λ texts_of. texts texts_of.items)

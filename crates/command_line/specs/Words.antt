@@ -1,7 +1,7 @@
 -- What the words of the command line ask for. The words are those behind the program's name.
-use Rattle.std.specs.Prelude.{ℕ, ◌==◌, ◌&&◌, ◌||◌, Bool, true, false, not, List, [], ◌∷◌, ◌++◌}
-use Rattle.std.specs.Prelude.{map, filter, find, codes, nat_eq, bytes_eq, Option, Some, None}
-use Rattle.std.specs.Prelude.{option_map, if◌then◌else◌}
+use Rattle.std.specs.Prelude.{ℕ, ◌+◌, ◌*◌, ◌-◌, ◌==◌, ◌&&◌, ◌||◌, nat_le, Bool, true, false, not}
+use Rattle.std.specs.Prelude.{List, [], ◌∷◌, ◌++◌, map, filter, find, codes, nat_eq, bytes_eq}
+use Rattle.std.specs.Prelude.{Option, Some, None, option_map, if◌then◌else◌}
 use Rattle.std.specs.List.{list_all, list_any, ends_with}
 use Rattle.command_line.specs.declared.job.TheConstants.{IJAR}
 
@@ -14,8 +14,8 @@ pub data Refusal : Type 0 where
 
 -- what there is to do
 pub data Command : Type 0 where
-  -- strip the class files under a root into an output folder
-  Ijar : List ℕ → List ℕ → Command
+  -- strip the class files under these roots, in their order, into an output folder
+  Ijar : List (List ℕ) → List ℕ → Command
 
 pub data Job : Type 0 where
   Refused : Refusal → Job
@@ -79,14 +79,55 @@ nonempty (b ∷ bs) = Some (b ∷ bs)
 abbrev pub path_of : List ℕ → Option (List ℕ)
 path_of value = nonempty (trimmed value)
 
-abbrev pub stripping : Option (List ℕ) → Option (List ℕ) → Option Command
-stripping None output = None
-stripping (Some input) None = None
-stripping (Some input) (Some output) = Some (Ijar input output)
+-- a path before others, where there are these
+abbrev pub before_paths : Option (List ℕ) → Option (List (List ℕ)) → Option (List (List ℕ))
+before_paths None paths = None
+before_paths (Some path) paths = option_map (λ more. path ∷ more) paths
 
--- one input and one output
+-- the paths that values give: none where one of the values gives none
+abbrev pub paths_of : List (List ℕ) → Option (List (List ℕ))
+paths_of [] = Some []
+paths_of (value ∷ values) = before_paths (path_of value) (paths_of values)
+
+-- the digits, from '0' to '9'
+abbrev pub digit_zero : ℕ
+digit_zero = 48
+
+abbrev pub digit_nine : ℕ
+digit_nine = 57
+
+abbrev pub is_digit : ℕ → Bool
+is_digit b = nat_le digit_zero b && nat_le b digit_nine
+
+abbrev pub is_leading_digit : ℕ → Bool
+is_leading_digit b = is_digit b && not (b == digit_zero)
+
+-- a number from 1 to 64 in decimal digits, without a zero in front
+abbrev pub is_worker_count : List ℕ → Bool
+is_worker_count [] = false
+is_worker_count (ones ∷ []) = is_leading_digit ones
+is_worker_count (tens ∷ (ones ∷ [])) =
+    is_leading_digit tens
+    && (is_digit ones && nat_le (10 * (tens - digit_zero) + (ones - digit_zero)) 64)
+is_worker_count (a ∷ (b ∷ (c ∷ word))) = false
+
+-- The number of workers is given at most once. It is no part of the job.
+abbrev pub are_workers : List (List ℕ) → Bool
+are_workers [] = true
+are_workers (word ∷ []) = is_worker_count word
+are_workers (word ∷ (other ∷ words)) = false
+
+-- one input at least
+abbrev pub stripping : Option (List (List ℕ)) → Option (List ℕ) → Option Command
+stripping None output = None
+stripping (Some []) output = None
+stripping (Some (input ∷ inputs)) None = None
+stripping (Some (input ∷ inputs)) (Some output) = Some (Ijar (input ∷ inputs) output)
+
+-- the values of the inputs, of the output, which is one, and of the number of workers
 abbrev pub ijar_of : Option (List (List (List ℕ))) → Option Command
-ijar_of (Some ((input ∷ []) ∷ ((output ∷ []) ∷ []))) = stripping (path_of input) (path_of output)
+ijar_of (Some (inputs ∷ ((output ∷ []) ∷ (workers ∷ [])))) =
+    if are_workers workers then stripping (paths_of inputs) (path_of output) else None
 ijar_of given = None
 
 abbrev pub ijar : List (List ℕ) → Option Command

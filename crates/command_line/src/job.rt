@@ -1,9 +1,11 @@
 ghost use Rattle.std.specs.Prelude.{◌≡◌, map, string_bytes, find, Some, IfOk};
 ghost use Rattle.command_line.specs.Words.{is_archive, ijar as ijar_words, ijar_of};
 ghost use Rattle.command_line.specs.Words.{command as command_of, job};
-ghost use Rattle.command_line.specs.Seen.{job_seen, maybe_command_seen, text_seen, values_seen};
+ghost use Rattle.command_line.specs.Words.{paths_of, path_of, stripping as stripping_of};
+ghost use Rattle.command_line.specs.Seen.{job_seen, maybe_command_seen, text_seen, texts};
+ghost use Rattle.command_line.specs.Seen.{values_seen};
 
-use crate::options::{option_values, path_value};
+use crate::options::{are_workers, option_values, path_value, path_values};
 use hdr_core::Memory;
 use std::alloc::Global;
 
@@ -17,14 +19,17 @@ pub enum Refusal<'a> {
 }
 
 /// What there is to do.
-#[derive(Clone, Copy, PartialEq, Eq)]
+#[derive(Drop, PartialEq, Eq)]
 pub enum Command<'a> {
-    /// Strip the class files under a root into an output folder.
-    Ijar { input: &'a str, output: &'a str },
+    /// Strip the class files under these roots, in their order, into an output folder.
+    Ijar {
+        inputs: Vec<&'a str>,
+        output: &'a str,
+    },
 }
 
 /// What the words ask for.
-#[derive(Clone, Copy, PartialEq, Eq)]
+#[derive(Drop, PartialEq, Eq)]
 pub enum Job<'a> {
     /// Nothing: a line is told.
     Refused(Refusal<'a>),
@@ -50,22 +55,44 @@ fn first_archive(words: &[String]) -> Option<&str>
 }
 
 /// The options of `ijar`, in the order in which their values are taken.
-pub(crate) const IJAR: [&str; 2] = ["--input", "--output"];
+pub(crate) const IJAR: [&str; 3] = ["--input", "--output", "--workers"];
 
-/// One input and one output.
-fn stripping<'a>(values: &[Vec<&'a str>]) -> Option<Command<'a>>
-    ensures { maybe_command_seen result ≡ ijar_of (Some (values_seen values.now)) }
+/// One input at least, and one output.
+fn stripping<'a>(
+    alloc: Global,
+    inputs: &[&'a str],
+    output: &'a str,
+) -> Result<Option<Command<'a>>, Memory>
+    ensures { IfOk result (λ command. maybe_command_seen command
+        ≡ stripping_of (paths_of (texts inputs.now)) (path_of output.now)) }
 {
-    let [inputs, outputs] = values else {
-        return None;
+    let Some(inputs) = path_values(alloc, inputs)? else {
+        return Ok(None);
     };
-    let ([input], [output]) = (inputs.as_slice(), outputs.as_slice()) else {
-        return None;
-    };
-    Some(Command::Ijar {
-        input: path_value(input)?,
-        output: path_value(output)?,
+    if inputs.is_empty() {
+        return Ok(None);
+    }
+    Ok(match path_value(output) {
+        Some(output) => Some(Command::Ijar { inputs, output }),
+        None => None,
     })
+}
+
+/// The job of the values of each option.
+fn ijar_job<'a>(alloc: Global, values: &[Vec<&'a str>]) -> Result<Option<Command<'a>>, Memory>
+    ensures { IfOk result (λ command.
+        maybe_command_seen command ≡ ijar_of (Some (values_seen values.now))) }
+{
+    let [inputs, outputs, workers] = values else {
+        return Ok(None);
+    };
+    let [output] = outputs.as_slice() else {
+        return Ok(None);
+    };
+    if !are_workers(workers) {
+        return Ok(None);
+    }
+    stripping(alloc, inputs, output)
 }
 
 fn ijar(alloc: Global, words: &[String]) -> Result<Option<Command<'_>>, Memory>
@@ -73,7 +100,7 @@ fn ijar(alloc: Global, words: &[String]) -> Result<Option<Command<'_>>, Memory>
         maybe_command_seen command ≡ ijar_words (map string_bytes words.now)) }
 {
     match option_values(alloc, &IJAR, words)? {
-        Some(values) => Ok(stripping(&values)),
+        Some(values) => ijar_job(alloc, &values),
         None => Ok(None),
     }
 }

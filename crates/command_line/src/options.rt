@@ -3,8 +3,11 @@ ghost use Rattle.std.specs.Prelude.{slice_index_or, slice_set, string_bytes, vec
 ghost use Rattle.std.specs.Prelude.{Some, None, IfOk, IfSome, IsTrue, OnOk, if◌then◌else◌};
 ghost use Rattle.command_line.specs.Words.{is_value as is_value_of, options, are_distinct};
 ghost use Rattle.command_line.specs.Words.{values_of, trimmed as trimmed_of, path_of};
-ghost use Rattle.command_line.specs.Seen.{text_seen, texts, values_seen, maybe_values_seen};
-ghost use Rattle.command_line.specs.Seen.{option_seen, first_option as first_option_of};
+ghost use Rattle.command_line.specs.Words.{paths_of, is_worker_count as is_worker_count_of};
+ghost use Rattle.command_line.specs.Words.{are_workers as are_workers_of};
+ghost use Rattle.command_line.specs.Seen.{text_seen, maybe_texts_seen, texts, values_seen};
+ghost use Rattle.command_line.specs.Seen.{maybe_values_seen, option_seen};
+ghost use Rattle.command_line.specs.Seen.{first_option as first_option_of};
 
 use hdr_core::Memory;
 use std::alloc::Global;
@@ -112,4 +115,40 @@ pub fn path_value(value: &str) -> Option<&str>
 {
     let path = trimmed(value);
     if path.is_empty() { None } else { Some(path) }
+}
+
+/// The paths that values give: none where one of the values gives none.
+pub fn path_values<'a>(alloc: Global, values: &[&'a str]) -> Result<Option<Vec<&'a str>>, Memory>
+    ensures { IfOk result (λ paths. maybe_texts_seen paths ≡ paths_of (texts values.now)) }
+{
+    let mut paths = Vec::with_capacity(alloc, values.len())?;
+    for value in values {
+        match path_value(value) {
+            Some(path) => paths.push(path)?,
+            None => return Ok(None),
+        }
+    }
+    Ok(Some(paths))
+}
+
+/// A number from 1 to 64 in decimal digits, without a zero in front.
+fn is_worker_count(word: &[u8]) -> bool
+    ensures { result ≡ is_worker_count_of word.now }
+{
+    match word {
+        [b'1'..=b'9'] => true,
+        [tens @ b'1'..=b'9', ones @ b'0'..=b'9'] => 10 * (*tens - b'0') + (*ones - b'0') <= 64,
+        _ => false,
+    }
+}
+
+/// The number of workers is given at most once.
+pub fn are_workers(values: &[&str]) -> bool
+    ensures { result ≡ are_workers_of (texts values.now) }
+{
+    match values {
+        [] => true,
+        [word] => is_worker_count(word.as_bytes()),
+        _ => false,
+    }
 }
