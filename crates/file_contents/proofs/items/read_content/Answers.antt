@@ -1,0 +1,31 @@
+use Rattle.std.proofs.Common.{◌≡◌, true, false, cond, sym, ap, ◌∙◌}
+use Rattle.std.specs.Prelude.{Ok}
+use Rattle.class_reader.specs.Reading.{class_of}
+use Rattle.used_files.specs.Paths.{is_module, part_below}
+use Rattle.file_contents.specs.Contents.{module_content, class_content}
+use Rattle.file_contents.proofs.items.read_content.Goals as goal
+
+pub returns-then-is_module : goal.returns-then-is_module
+returns-then-is_module c =
+    let place = c.args.place.now in
+    let bytes = c.args.bytes.now in
+    let yes : is_module place.path ≡ true = ap is_module (sym c.path.ensures)
+    ∙ sym c.is_module.ensures ∙ c.if-is_module.true in
+    ap (λ b. cond b (Ok (module_content (part_below place.root place.path) bytes))
+    (class_content (class_of bytes))) yes
+    ∙ ap Ok (sym
+    (c.in_ok-content.ensures
+    ∙ ap (λ below. module_content below bytes)
+    (c.part_below-below.ensures
+    ∙ ap (λ root. part_below root c.path-then-is_module.result.now) c.root.ensures
+    ∙ ap (part_below place.root) c.path-then-is_module.ensures)))
+
+pub returns : goal.returns
+returns c =
+    let place = c.args.place.now in
+    let bytes = c.args.bytes.now in
+    let no : is_module place.path ≡ false = ap is_module (sym c.path.ensures)
+    ∙ sym c.is_module.ensures ∙ c.if-is_module.false in
+    ap (λ b. cond b (Ok (module_content (part_below place.root place.path) bytes))
+    (class_content (class_of bytes))) no
+    ∙ ap class_content c.in_ok-desc.ensures.exact

@@ -1,0 +1,4 @@
+pub mod Contents
+pub mod Found
+pub mod Phases
+pub mod Reading

@@ -1,0 +1,4 @@
+pub mod OutFiles
+pub mod Outside
+pub mod Statuses
+pub mod Tells
