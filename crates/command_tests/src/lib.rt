@@ -5,7 +5,15 @@
 #[cfg(test)]
 mod building;
 #[cfg(test)]
+mod faults;
+#[cfg(test)]
+mod folders;
+#[cfg(test)]
+mod limits;
+#[cfg(test)]
 mod paths;
+#[cfg(test)]
+mod running;
 #[cfg(test)]
 mod runs;
 #[cfg(test)]

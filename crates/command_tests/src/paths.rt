@@ -1,5 +1,5 @@
 use crate::building::words;
-use commands::used_paths;
+use used_files::used_paths;
 
 /// Paths as they were listed below `in`.
 const LISTED: &str = "in/b/C.class in/a.class in/b.class in/B.java in/META-INF/A.class \
@@ -11,7 +11,7 @@ const USED: &str = "in/META-INF.class in/a.class in/a/.class in/b.class in/b/C.c
 #[test]
 fn uses_class_files_in_the_order_of_their_bytes(rt: HostRuntime) {
     let listed = words(&rt, rt.alloc(), LISTED);
-    let used = used_paths(rt.alloc(), "in", &listed).expect(&rt, "memory");
+    let used = used_paths(rt.alloc(), "in", listed).expect(&rt, "memory");
     let mut told = String::new(rt.alloc());
     for path in &used {
         told.push_str(path.as_str()).expect(&rt, "memory");

@@ -1,8 +1,7 @@
 //! Words and files, and what comes of them.
-ghost use Rattle.std.specs.Prelude.{◌≢◌};
-
-use commands::{Status, run};
-use hdr_core::{HeldFile, MemFiles, MemOuts, MemSink, NoGate, SureFiles, SureOuts, SureSink};
+use crate::running::{Ran, run_sure, words_of};
+use commands::Status;
+use hdr_core::HeldFile;
 use std::alloc::Global;
 use std::process::Abort;
 use std::thread::Threads;
@@ -55,15 +54,6 @@ const WIDE_STRIPPED: &[u8] = b"\xca\xfe\xba\xbe\0\0\0\x3d\0\x0d\
 /// The words of a job.
 const JOB: &[&str] = &["ijar", "--input", "in", "--output", "out"];
 
-fn words_of(rt: &impl Abort, alloc: Global, row: &[&str]) -> Vec<String> {
-    let mut words = Vec::new(alloc);
-    for word in row {
-        let word = String::from_str(alloc, word).expect(rt, "memory");
-        words.push(word).expect(rt, "memory");
-    }
-    words
-}
-
 /// Files of these paths and bytes.
 fn held(rt: &impl Abort, alloc: Global, paths: &[&str], bytes: &[u8]) -> Vec<HeldFile> {
     let mut files = Vec::new(alloc);
@@ -75,28 +65,6 @@ fn held(rt: &impl Abort, alloc: Global, paths: &[&str], bytes: &[u8]) -> Vec<Hel
         files.push(file).expect(rt, "memory");
     }
     files
-}
-
-/// What came of a run over objects that never fail.
-#[derive(Drop)]
-struct Ran {
-    status: Status,
-    outs: SureOuts,
-    err: SureSink,
-}
-
-/// A run over objects that never fail answers no fault.
-fn run_sure<R: Threads + Sync>(rt: &R, alloc: Global, words: &[String], files: Vec<HeldFile>) -> Ran
-    ensures { (result.status ≢ Status.ReadFault) × (result.status ≢ Status.WriteFault) }
-{
-    let mut files = SureFiles::of(files);
-    let mut outs = SureOuts::of(alloc);
-    let mut out = SureSink::of(alloc);
-    let mut err = SureSink::of(alloc);
-    let status = run(
-        rt, alloc, words, &mut files, &mut outs, &mut out, &mut err, &NoGate,
-    );
-    Ran { status, outs, err }
 }
 
 /// Runs these words on one file.
@@ -111,13 +79,13 @@ fn run_on<R: Abort + Threads + Sync>(
     run_sure(rt, alloc, &words, held(rt, alloc, &[path], bytes))
 }
 
-/// The one file that was written is out/A.class of these bytes, and nothing was told.
-fn check_done<R: Abort>(rt: &R, ran: &Ran, stripped: &[u8]) {
+/// The one file that was written is that of this path and these bytes, and nothing was told.
+fn check_done<R: Abort>(rt: &R, ran: &Ran, path: &str, stripped: &[u8]) {
     assert!(rt; ran.status == Status::Done);
     let [file] = ran.outs.written() else {
         panic!(rt; "other than one file was written")
     };
-    assert!(rt; file.path.as_str() == "out/A.class");
+    assert!(rt; file.path.as_str() == path);
     assert!(rt; file.bytes.as_slice() == stripped);
     assert!(rt; ran.err.told().is_empty());
 }
@@ -139,8 +107,50 @@ fn strips_class_files(rt: HostRuntime) {
     ];
     for (bytes, stripped) in rows {
         let ran = run_on(&rt, rt.alloc(), JOB, "in/A.class", bytes);
-        check_done(&rt, &ran, stripped);
+        check_done(&rt, &ran, "out/A.class", stripped);
     }
+}
+
+/// A class of this name as the product writes it.
+fn class_named<R: Abort + AllocGlobal>(rt: &R, name: &[u8]) -> Vec<u8> {
+    let length = [0, (name.len() % 256) as u8];
+    let mut file = Vec::new(rt.alloc());
+    for part in [
+        b"\xca\xfe\xba\xbe\0\0\0\x3d\0\x05\x01".as_slice(),
+        &length,
+        name,
+        b"\x07\0\x01\x01\0\x10java/lang/Object\x07\0\x03",
+        b"\0\x21\0\x02\0\x04\0\0\0\0\0\0\0\0",
+    ] {
+        file.extend_from_slice(part).expect(rt, "memory");
+    }
+    file
+}
+
+/// Names are modified UTF-8, paths UTF-8: a character above U+FFFF has two units in a name.
+#[test]
+fn writes_classes_under_the_paths_of_their_names(rt: HostRuntime) {
+    let rows: [(&[u8], &str); 4] = [
+        (b"p/q/A", "out/p/q/A.class"),
+        (b"\xc3\xa9", "out/\u{e9}.class"),
+        (b"\xed\xa0\xb5\xed\xb5\x8f", "out/\u{1d54f}.class"),
+        (b"a b<", "out/a b<.class"),
+    ];
+    for (name, path) in rows {
+        let class = class_named(&rt, name);
+        let ran = run_on(&rt, rt.alloc(), JOB, "in/A.class", &class);
+        check_done(&rt, &ran, path, &class);
+    }
+}
+
+#[test]
+fn tells_names_that_are_those_of_no_file(rt: HostRuntime) {
+    let class = class_named(&rt, b"\xed\xa0\xb5");
+    let ran = run_on(&rt, rt.alloc(), JOB, "in/A.class", &class);
+    assert!(rt; ran.status == Status::Diagnosed);
+    let told = b"in/A.class:0: L6 class name is no file name: \xed\xa0\xb5\n";
+    assert!(rt; ran.err.told() == told.as_slice());
+    assert!(rt; ran.outs.written().is_empty());
 }
 
 #[test]
@@ -160,35 +170,49 @@ fn tells_words_that_are_no_job(rt: HostRuntime) {
     }
 }
 
+/// Fronts of a class file are told at the item that isn't whole.
 #[test]
-fn tells_files_that_are_no_plain_class(rt: HostRuntime) {
-    for length in [0, 1, 2, 3, 4, 5, 30, 40, 52] {
+fn tells_fronts_of_class_files(rt: HostRuntime) {
+    let rows = [
+        (0, "in/A.class:0: F1 class file is cut short\n"),
+        (3, "in/A.class:0: F1 class file is cut short\n"),
+        (4, "in/A.class:4: F1 class file is cut short\n"),
+        (5, "in/A.class:4: F1 class file is cut short\n"),
+        (30, "in/A.class:23: F1 class file is cut short\n"),
+        (40, "in/A.class:39: F1 class file is cut short\n"),
+        (52, "in/A.class:51: F1 class file is cut short\n"),
+    ];
+    for (length, told) in rows {
         let ran = run_on(&rt, rt.alloc(), JOB, "in/A.class", &PLAIN[..length]);
-        check_told(
-            &rt,
-            &ran,
-            Status::Diagnosed,
-            "in/A.class:0: F0 not read in this stage\n",
-        );
+        check_told(&rt, &ran, Status::Diagnosed, told);
     }
 }
 
+/// One byte of a class is another one: what fails first is told, at its item.
 #[test]
-fn tells_inputs_of_other_than_one_class(rt: HostRuntime) {
-    let paths = [
-        "in/A.java",
-        "in/META-INF/A.class",
-        "in/module-info.class",
-        "in.class",
+fn tells_the_first_check_that_fails(rt: HostRuntime) {
+    let rows = [
+        (0, 0xcb, "in/A.class:0: F2 not a class file\n"),
+        (7, 0x3e, "in/A.class:6: F3 unsupported version\n"),
+        (10, 0x02, "in/A.class:10: F4 unknown pool tag\n"),
+        (42, 0x02, "in/A.class:41: F5 wrong pool entry\n"),
+        (16, 0x00, "in/A.class:41: F6 malformed text\n"),
+        (
+            16,
+            0x3b,
+            "in/A.class:41: F7 malformed name, descriptor, signature or value tag\n",
+        ),
+        (
+            39,
+            0x80,
+            "in/A.class:39: F11 wrong superclass or module flag\n",
+        ),
     ];
-    for path in paths {
-        let ran = run_on(&rt, rt.alloc(), JOB, path, PLAIN);
-        check_told(
-            &rt,
-            &ran,
-            Status::Diagnosed,
-            "in:0: F0 not read in this stage\n",
-        );
+    for (at, byte, told) in rows {
+        let mut bytes = Vec::from_slice(rt.alloc(), PLAIN).expect(&rt, "memory");
+        bytes[at] = byte;
+        let ran = run_on(&rt, rt.alloc(), JOB, "in/A.class", &bytes);
+        check_told(&rt, &ran, Status::Diagnosed, told);
     }
 }
 
@@ -196,8 +220,8 @@ fn tells_inputs_of_other_than_one_class(rt: HostRuntime) {
 #[test]
 fn tells_files_that_are_too_long(rt: HostRuntime) {
     let rows = [
-        (PLAIN.len() + 1, "in/A.class:0: F0 not read in this stage\n"),
-        (16_777_216, "in/A.class:0: F0 not read in this stage\n"),
+        (PLAIN.len() + 1, "in/A.class:53: F10 bytes after the end\n"),
+        (16_777_216, "in/A.class:53: F10 bytes after the end\n"),
         (
             16_777_217,
             "in/A.class:0: L1 file is longer than 16777216 bytes\n",
@@ -208,173 +232,5 @@ fn tells_files_that_are_too_long(rt: HostRuntime) {
         bytes.resize(length, 0).expect(&rt, "memory");
         let ran = run_on(&rt, rt.alloc(), JOB, "in/A.class", &bytes);
         check_told(&rt, &ran, Status::Diagnosed, told);
-    }
-}
-
-/// A run over objects of which listed calls fail, and what comes of it. Each file has the same
-/// bytes.
-#[derive(Drop)]
-struct Fault {
-    words: &'static [&'static str],
-    paths: &'static [&'static str],
-    bytes: &'static [u8],
-    files: &'static [u32],
-    outs: &'static [u32],
-    err: &'static [u32],
-    status: Status,
-    told: &'static str,
-    /// How many calls are made on the files, and how many files are put.
-    calls: (u32, u32),
-}
-
-const ONE: &[&str] = &["in/A.class"];
-
-const FAULTS: &[Fault] = &[
-    // No call of a job that is done.
-    Fault {
-        words: JOB,
-        paths: ONE,
-        bytes: PLAIN,
-        files: &[2],
-        outs: &[1],
-        err: &[0],
-        status: Status::Done,
-        told: "",
-        calls: (2, 1),
-    },
-    // Listing.
-    Fault {
-        words: JOB,
-        paths: ONE,
-        bytes: PLAIN,
-        files: &[0],
-        outs: &[0],
-        err: &[],
-        status: Status::ReadFault,
-        told: "read fault: in\n",
-        calls: (1, 0),
-    },
-    // Reading.
-    Fault {
-        words: JOB,
-        paths: ONE,
-        bytes: PLAIN,
-        files: &[1],
-        outs: &[],
-        err: &[],
-        status: Status::ReadFault,
-        told: "read fault: in/A.class\n",
-        calls: (2, 0),
-    },
-    // Reading, and then telling of it.
-    Fault {
-        words: JOB,
-        paths: ONE,
-        bytes: PLAIN,
-        files: &[1],
-        outs: &[],
-        err: &[1],
-        status: Status::ReadFault,
-        told: "read fa",
-        calls: (2, 0),
-    },
-    // Putting.
-    Fault {
-        words: JOB,
-        paths: ONE,
-        bytes: PLAIN,
-        files: &[],
-        outs: &[0],
-        err: &[],
-        status: Status::WriteFault,
-        told: "",
-        calls: (2, 1),
-    },
-    // Telling a diagnostic, before its line and within it.
-    Fault {
-        words: JOB,
-        paths: ONE,
-        bytes: b"",
-        files: &[],
-        outs: &[0],
-        err: &[0],
-        status: Status::WriteFault,
-        told: "",
-        calls: (2, 0),
-    },
-    Fault {
-        words: JOB,
-        paths: ONE,
-        bytes: b"",
-        files: &[],
-        outs: &[0],
-        err: &[1],
-        status: Status::WriteFault,
-        told: "in/A.cl",
-        calls: (2, 0),
-    },
-    // Of two class files none is read.
-    Fault {
-        words: JOB,
-        paths: &["in/A.class", "in/B.class"],
-        bytes: PLAIN,
-        files: &[1],
-        outs: &[0],
-        err: &[],
-        status: Status::Diagnosed,
-        told: "in:0: F0 not read in this stage\n",
-        calls: (1, 0),
-    },
-    // Where the words are no job, nothing else is called.
-    Fault {
-        words: &["ijar"],
-        paths: ONE,
-        bytes: PLAIN,
-        files: &[0],
-        outs: &[0],
-        err: &[],
-        status: Status::Usage,
-        told: "usage: jheader turbine|ijar|ask options\n",
-        calls: (0, 0),
-    },
-    Fault {
-        words: &["ijar", "--input", "in.zip"],
-        paths: ONE,
-        bytes: PLAIN,
-        files: &[0],
-        outs: &[0],
-        err: &[2],
-        status: Status::Usage,
-        told: "archives are n",
-        calls: (0, 0),
-    },
-];
-
-fn calls(rt: &impl Abort, alloc: Global, numbers: &[u32]) -> Vec<u32> {
-    Vec::from_slice(alloc, numbers).expect(rt, "memory")
-}
-
-fn check_fault<R: Abort + Threads + Sync>(rt: &R, alloc: Global, fault: &Fault) {
-    let words = words_of(rt, alloc, fault.words);
-    let held = held(rt, alloc, fault.paths, fault.bytes);
-    let mut files = MemFiles::of(held, calls(rt, alloc, fault.files));
-    let mut outs = MemOuts::of(alloc, calls(rt, alloc, fault.outs));
-    let mut out = MemSink::of(alloc, 7, calls(rt, alloc, &[0]));
-    let mut err = MemSink::of(alloc, 7, calls(rt, alloc, fault.err));
-    let status = run(
-        rt, alloc, &words, &mut files, &mut outs, &mut out, &mut err, &NoGate,
-    );
-    assert!(rt; status == fault.status);
-    assert!(rt; err.told() == fault.told.as_bytes());
-    assert!(rt; (files.calls().made(), outs.calls().made()) == fault.calls);
-    assert!(rt; out.calls().made() == 0);
-    let written = if fault.status == Status::Done { 1 } else { 0 };
-    assert!(rt; outs.written().len() == written);
-}
-
-#[test]
-fn answers_faults(rt: HostRuntime) {
-    for fault in FAULTS {
-        check_fault(&rt, rt.alloc(), fault);
     }
 }

@@ -1,9 +1,5 @@
-pub mod Folders
-pub mod Inserted
-pub mod Options
-pub mod Rising
+pub mod Ends
+pub mod Phased
 pub mod Runs
-pub mod Sole
-pub mod Spelled
-pub mod Told
-pub mod Written
+pub mod Sourced
+pub mod Stripped

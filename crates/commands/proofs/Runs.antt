@@ -6,22 +6,23 @@ use Rattle.hdr_core.specs.Causes.{Rose, grown, GrewByFront}
 use Rattle.hdr_core.specs.Diagnostics.{printed}
 use Rattle.hdr_core.specs.declared.diagnostics.Diag.{Diag}
 use Rattle.command_line.specs.Words.{Refusal, Command, Job, Refused, Doing, refusal_line}
-use Rattle.commands.specs.Paths.{File}
-use Rattle.commands.specs.declared.status.Status.{Status}
-use Rattle.commands.specs.declared.status.Status.TheVariants.{Done, Diagnosed, Usage, ReadFault}
-use Rattle.commands.specs.declared.status.Status.TheVariants.{WriteFault, Memory}
-use Rattle.commands.specs.declared.stop.Stop.{Stop}
-use Rattle.commands.specs.declared.stop.Stop.TheVariants as stop
+use Rattle.used_files.specs.Paths.{File}
+use Rattle.run_ends.specs.declared.status.Status.{Status}
+use Rattle.run_ends.specs.declared.status.Status.TheVariants.{Done, Diagnosed, Usage, ReadFault}
+use Rattle.run_ends.specs.declared.status.Status.TheVariants.{WriteFault, Memory}
+use Rattle.used_files.specs.declared.stop.Stop.{Stop}
+use Rattle.used_files.specs.declared.stop.Stop.TheVariants as stop
 use Rattle.commands.specs.Outcome.{Outcome, outcome, outcome_of, made, diagnosed}
-use Rattle.commands.specs.Outside.{Outside, OutsState, SinkState, CanRise}
-use Rattle.commands.specs.Stops.{StopsOnly, FaultRises, IsPathOf}
-use Rattle.commands.specs.Tells.{TellsLine, LineTold, StopTold, FilesPut, GrewByFiles, fault_line}
-use Rattle.commands.specs.Tells.{with_files}
+use Rattle.run_ends.specs.Outside.{Outside, OutsState, SinkState, CanRise}
+use Rattle.used_files.specs.Stops.{StopsOnly, FaultRises}
+use Rattle.commands.specs.JobPaths.{IsPathOf}
+use Rattle.run_ends.specs.Tells.{TellsLine, LineTold, StopTold, FilesPut, GrewByFiles, fault_line}
+use Rattle.run_ends.specs.Tells.{with_files}
 use Rattle.commands.specs.Runs.{Meets, MeetsFront, OfOutcome, FilesFailed, OthersFailed, Stood}
 use Rattle.commands.specs.Runs.{Runs}
-use Rattle.commands.proofs.Options.{if_some, from_some}
-use Rattle.commands.proofs.Told.{grown_nothing, grew_nothing, grew_whole}
-use Rattle.commands.proofs.Written.{with_none, wrote_nothing, wrote_all}
+use Rattle.used_files.proofs.Options.{if_some, from_some}
+use Rattle.run_ends.proofs.Told.{grown_nothing, grew_nothing, grew_whole}
+use Rattle.run_ends.proofs.Written.{with_none, wrote_nothing, wrote_all}
 
 above : (before after : ℕ) → before < 2 ^ 64 - 1 → Rose before after → before < after
 above before after few rose = omega arith

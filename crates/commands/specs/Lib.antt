@@ -1,9 +1,5 @@
+pub mod JobPaths
 pub mod Outcome
-pub mod Outside
-pub mod Parts
-pub mod Paths
 pub mod Phases
 pub mod Runs
-pub mod Statuses
-pub mod Stops
-pub mod Tells
+pub mod Sources

@@ -1,20 +1,25 @@
 -- What a job comes to: the files written, the texts and the status, from the words and the files
 -- held.
-use Rattle.std.specs.Prelude.{ℕ, List, [], ◌∷◌, ◌++◌, map, flat_map, codes, Result, Ok, Err}
-use Rattle.std.specs.Ordering.{nat_cmp, match_ordering}
-use Rattle.std.specs.Cmp.Lexicographic.{slice_cmp}
+use Rattle.std.specs.Prelude.{ℕ, List, [], ◌∷◌, ◌++◌, flat_map, codes, Option, Some, None}
+use Rattle.std.specs.Prelude.{unwrap_or}
 use Rattle.hdr_core.specs.Diagnostics.{printed}
 use Rattle.hdr_core.specs.declared.diagnostics.Diag.{Diag}
+use Rattle.java_names.specs.Paths.{path_of_name}
 use Rattle.class_desc.specs.declared.class.ClassDesc.{ClassDesc}
 use Rattle.class_desc.specs.Layout.{layout}
-use Rattle.class_views.specs.Strip.{strip_class}
-use Rattle.class_reader.specs.declared.fault.ClassFault.{ClassFault}
-use Rattle.class_reader.specs.Reading.{class_of}
 use Rattle.command_line.specs.Words.{Command, Ijar, Job, Refused, Doing, refusal_line}
-use Rattle.commands.specs.declared.status.Status.{Status}
-use Rattle.commands.specs.declared.status.Status.TheVariants.{Done, Diagnosed, Usage}
-use Rattle.commands.specs.Paths.{File, tree}
-use Rattle.commands.specs.Phases.{diagnostics}
+use Rattle.file_contents.specs.declared.limits.Limits.{Limits}
+use Rattle.file_contents.specs.declared.limits.TheConstants.{LIMITS}
+use Rattle.file_contents.specs.declared.items.Content.{Content}
+use Rattle.file_contents.specs.declared.items.Content.TheVariants.{Class, Module}
+use Rattle.file_contents.specs.declared.items.Item.{Item}
+use Rattle.run_ends.specs.declared.status.Status.{Status}
+use Rattle.run_ends.specs.declared.status.Status.TheVariants.{Done, Diagnosed, Usage}
+use Rattle.used_files.specs.Order.{in_order}
+use Rattle.run_ends.specs.OutFiles.{file_order}
+use Rattle.used_files.specs.Paths.{File, UsedFile, tree}
+use Rattle.commands.specs.Phases.{diagnostics, kept_class}
+use Rattle.file_contents.specs.Contents.{items_of, classes}
 
 pub record Outcome : Type 0 where
   pub files : List File
@@ -22,34 +27,36 @@ pub record Outcome : Type 0 where
   pub err : List ℕ
   pub status : Status
 
-abbrev pub spelled : Result ClassDesc ClassFault → List ClassDesc
-spelled (Ok d) = d ∷ []
-spelled (Err fault) = []
-
--- the stripped classes of the files
-abbrev pub classes : List File → List ClassDesc
-classes files = map strip_class (flat_map (λ file. spelled (class_of file.1)) files)
+-- below the output folder
+abbrev pub below_output : List ℕ → List ℕ → List ℕ
+below_output output path = output ++ (codes "/" ++ path)
 
 -- a class is written under its own name
-abbrev pub written_file : List ℕ → ClassDesc → File
-written_file output d = (output ++ (codes "/" ++ (d.name ++ codes ".class")), layout d)
+abbrev pub class_file : List ℕ → ClassDesc → File
+class_file output d =
+    (below_output output (unwrap_or (path_of_name d.name) [] ++ codes ".class"), layout d)
 
--- a file goes before the first one of a greater path
-abbrev pub insert_file : List File → File → List File
-insert_file [] file = file ∷ []
-insert_file (first ∷ files) file =
-    match_ordering (slice_cmp nat_cmp file.0 first.0) (file ∷ first ∷ files)
-    (first ∷ insert_file files file) (first ∷ insert_file files file)
+abbrev pub kept_file : List ℕ → Option ClassDesc → List File
+kept_file output None = []
+kept_file output (Some d) = class_file output d ∷ []
 
-abbrev pub insert_files : List File → List File → List File
-insert_files done [] = done
-insert_files done (file ∷ files) = insert_files (insert_file done file) files
+abbrev pub class_files : List ℕ → List ClassDesc → Content → List File
+class_files output all (Class d) = kept_file output (kept_class all d)
+class_files output all (Module below name bytes) = []
 
-abbrev pub by_path : List File → List File
-by_path files = insert_files [] files
+-- a module's description is copied to the same path below the output
+abbrev pub module_files : List ℕ → Content → List File
+module_files output (Class d) = []
+module_files output (Module below name bytes) = (below_output output below, bytes) ∷ []
 
-abbrev pub written : List ℕ → List File → List File
-written output files = by_path (map (written_file output) (classes files))
+abbrev pub files_of : List ℕ → List Item → List File
+files_of output items =
+    flat_map (λ item. module_files output item.content) items
+    ++ flat_map (λ item. class_files output (classes items) item.content) items
+
+-- the copied modules and the stripped classes that are kept, in the order of their paths
+abbrev pub written : List ℕ → List Item → List File
+written output items = in_order file_order (files_of output items)
 
 -- the diagnostics are told, and nothing is written
 abbrev pub diagnosed : List Diag → Outcome
@@ -64,11 +71,12 @@ abbrev pub unless_diagnosed : List Diag → List File → Outcome
 unless_diagnosed [] files = made files
 unless_diagnosed (d ∷ ds) files = diagnosed (d ∷ ds)
 
-abbrev pub ijar : List ℕ → List ℕ → List File → Outcome
-ijar root output files = unless_diagnosed (diagnostics root files) (written output files)
+abbrev pub ijar : Limits → List ℕ → List UsedFile → Outcome
+ijar limits output files =
+    unless_diagnosed (diagnostics limits files) (written output (items_of files))
 
 abbrev pub outcome_of : Command → List File → Outcome
-outcome_of (Ijar input output) held = ijar input output (tree held input)
+outcome_of (Ijar inputs output) held = ijar LIMITS output (tree held inputs)
 
 -- the line is told, and nothing else is done
 abbrev pub usage_of : List ℕ → Outcome

@@ -1,52 +1,33 @@
--- The diagnostics of a job, phase by phase. Only the first phase that has one is told.
-use Rattle.std.specs.Prelude.{ℕ, Bool, false, not, List, [], ◌∷◌, length, flat_map, codes, nat_eq}
-use Rattle.std.specs.Prelude.{nat_lt, Option, Some, None, Result, Ok, Err, if◌then◌else◌}
-use Rattle.std.specs.List.{ends_with, enumerate_from}
+-- The diagnostics of a job, phase by phase. Only the first phase that has one is told, in the
+-- order of diagnostics. Each phase is a function of all files and one of them.
+use Rattle.std.specs.Prelude.{ℕ, List, [], ◌∷◌, ◌++◌, Option, Some, None, if◌then◌else◌}
+use Rattle.std.specs.List.{flat_map}
 use Rattle.hdr_core.specs.declared.code.Code.{Code}
-use Rattle.hdr_core.specs.declared.code.Code.TheVariants.{L1, F0, L4, L5, L9}
+use Rattle.hdr_core.specs.declared.code.Code.TheVariants.{L4, L5, L6, L9}
 use Rattle.hdr_core.specs.declared.diagnostics.Diag.{Diag}
+use Rattle.hdr_core.specs.Diagnostics.{diag_order}
+use Rattle.java_names.specs.Paths.{path_of_name}
 use Rattle.class_desc.specs.declared.class.ClassDesc.{ClassDesc}
 use Rattle.class_views.specs.Strip.{strip_class}
-use Rattle.class_reader.specs.declared.fault.ClassFault.{ClassFault}
-use Rattle.class_reader.specs.Reading.{class_of}
+use Rattle.class_views.specs.Kept.{is_kept}
 use Rattle.class_writer.specs.declared.error.PoolErr.{PoolErr}
 use Rattle.class_writer.specs.declared.error.PoolErr.TheVariants as refused
 use Rattle.class_writer.specs.Refusal.{refusal}
-use Rattle.commands.specs.Paths.{File}
+use Rattle.used_files.specs.Order.{in_order}
+use Rattle.used_files.specs.Paths.{UsedFile}
+use Rattle.file_contents.specs.declared.limits.Limits.{Limits}
+use Rattle.file_contents.specs.declared.items.Content.{Content}
+use Rattle.file_contents.specs.declared.items.Content.TheVariants.{Class, Module}
+use Rattle.file_contents.specs.declared.items.Item.{Item}
+use Rattle.file_contents.specs.Reading.{diag_at}
+use Rattle.file_contents.specs.Contents.{classes, items_of}
+use Rattle.file_contents.specs.Phases.{or_else, file_phases, twice}
 
-abbrev pub diag_at : ℕ → List ℕ → Code → List ℕ → Diag
-diag_at file path code name =
-    record { file = file; path = path; line = 0; code = code; name = name }
+-- ---- limits of the classes that are written
 
--- a used file with its number
-abbrev pub Numbered : Type 0
-Numbered = ℕ × File
-
-abbrev pub numbered : List File → List Numbered
-numbered files = enumerate_from 0 files
-
--- For now a job has one class file. Modules come later.
-abbrev pub is_sole : List File → Bool
-is_sole [] = false
-is_sole (file ∷ []) = not (ends_with nat_eq file.0 (codes "module-info.class"))
-is_sole (file ∷ other ∷ files) = false
-
-abbrev pub too_long : Numbered → List Diag
-too_long n = if nat_lt 16777216 (length n.1.1) then diag_at n.0 n.1.0 L1 [] ∷ [] else []
-
--- what reading the files under a root finds
-abbrev pub reading : List ℕ → List File → List Diag
-reading root files =
-    if is_sole files then flat_map too_long (numbered files) else diag_at 0 root F0 [] ∷ []
-
-abbrev pub unspelled_of : Numbered → Result ClassDesc ClassFault → List Diag
-unspelled_of n (Ok d) = []
-unspelled_of n (Err fault) = diag_at n.0 n.1.0 F0 [] ∷ []
-
--- Each file that spells no class. Reading from front to back finds a class just where the bytes
--- spell one: class_reader's law `reads_what_is_spelled`.
-abbrev pub syntax_phase : List File → List Diag
-syntax_phase files = flat_map (λ n. unspelled_of n (class_of n.1.1)) (numbered files)
+-- what is written of a class among all: nothing of one that isn't kept
+abbrev pub kept_class : List ClassDesc → ClassDesc → Option ClassDesc
+kept_class all d = if is_kept all d then Some (strip_class d) else None
 
 -- the code of a class that has no file, since that would pass a limit
 abbrev pub limit_code : PoolErr → Option Code
@@ -63,20 +44,38 @@ abbrev pub refused_as : Option PoolErr → Option Code
 refused_as None = None
 refused_as (Some e) = limit_code e
 
-abbrev pub limit_of : Numbered → Result ClassDesc ClassFault → List Diag
-limit_of n (Ok d) = limit_diag n.0 n.1.0 d.name (refused_as (refusal (strip_class d)))
-limit_of n (Err fault) = []
+-- a name with a surrogate without its partner is no name of a file
+abbrev pub no_path : ℕ → List ℕ → List ℕ → Option (List ℕ) → List Diag
+no_path file path name None = diag_at file path L6 name ∷ []
+no_path file path name (Some below) = []
 
-abbrev pub limits : List File → List Diag
-limits files = flat_map (λ n. limit_of n (class_of n.1.1)) (numbered files)
+abbrev pub limits_of : ℕ → List ℕ → ClassDesc → List Diag
+limits_of file path d =
+    no_path file path d.name (path_of_name d.name)
+    ++ limit_diag file path d.name (refused_as (refusal d))
 
-abbrev pub or_else : List Diag → List Diag → List Diag
-or_else [] later = later
-or_else (d ∷ ds) later = d ∷ ds
+abbrev pub kept_limits : ℕ → List ℕ → Option ClassDesc → List Diag
+kept_limits file path None = []
+kept_limits file path (Some d) = limits_of file path d
 
--- what the bytes of the files give rise to, once they are read
-abbrev pub later_phases : List File → List Diag
-later_phases files = or_else (syntax_phase files) (limits files)
+abbrev pub limits_in : List ClassDesc → ℕ → List ℕ → Content → List Diag
+limits_in all file path (Class d) = kept_limits file path (kept_class all d)
+limits_in all file path (Module below name bytes) = []
 
-abbrev pub diagnostics : List ℕ → List File → List Diag
-diagnostics root files = or_else (reading root files) (later_phases files)
+abbrev pub limits_at : List ClassDesc → Item → List Diag
+limits_at all item = limits_in all item.file item.path item.content
+
+abbrev pub limit_phase : List Item → List Diag
+limit_phase items = flat_map (limits_at (classes items)) items
+
+-- ---- the first phase
+
+-- what the classes and modules give rise to
+abbrev pub item_phases : List Item → List Diag
+item_phases items = or_else (twice items) (limit_phase items)
+
+abbrev pub first_phase : Limits → List UsedFile → List Diag
+first_phase limits files = or_else (file_phases limits files) (item_phases (items_of files))
+
+abbrev pub diagnostics : Limits → List UsedFile → List Diag
+diagnostics limits files = in_order diag_order (first_phase limits files)

@@ -5,14 +5,14 @@
 use Rattle.std.specs.Prelude.{◌≡◌, ◌⊎◌, ℕ, ◌<◌, List, None, IfSome, IsSome}
 use Rattle.hdr_core.specs.Causes.{grown, GrewByFront}
 use Rattle.command_line.specs.Words.{Job, usage_line}
-use Rattle.commands.specs.Paths.{File}
-use Rattle.commands.specs.declared.status.Status.{Status}
-use Rattle.commands.specs.declared.status.Status.TheVariants.{Done, Diagnosed, Usage, ReadFault}
-use Rattle.commands.specs.declared.status.Status.TheVariants.{WriteFault, Memory}
+use Rattle.used_files.specs.Paths.{File}
+use Rattle.run_ends.specs.declared.status.Status.{Status}
+use Rattle.run_ends.specs.declared.status.Status.TheVariants.{Done, Diagnosed, Usage, ReadFault}
+use Rattle.run_ends.specs.declared.status.Status.TheVariants.{WriteFault, Memory}
 use Rattle.commands.specs.Outcome.{Outcome, outcome}
-use Rattle.commands.specs.Outside.{Outside}
-use Rattle.commands.specs.Stops.{IsPathOfJob}
-use Rattle.commands.specs.Tells.{fault_line, with_files, GrewByFiles}
+use Rattle.run_ends.specs.Outside.{Outside}
+use Rattle.commands.specs.JobPaths.{IsPathOfJob}
+use Rattle.run_ends.specs.Tells.{fault_line, with_files, GrewByFiles}
 
 -- The run came to this outcome: to its status, by writing its files and telling its texts.
 pub record Meets (o : Outcome) (status : Status) (before after : Outside) : Type 0 where

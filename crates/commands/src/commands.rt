@@ -3,24 +3,25 @@ ghost use Rattle.std.specs.Prelude.{◌≡◌, map, string_bytes, IfOk, IfErr, I
 ghost use Rattle.command_line.specs.Words.{job};
 ghost use Rattle.command_line.specs.Seen.{command_seen};
 ghost use Rattle.commands.specs.Outcome.{outcome_of, made, diagnosed};
-ghost use Rattle.commands.specs.Outside.{outside, CanRise};
+ghost use Rattle.run_ends.specs.Outside.{outside, CanRise};
 ghost use Rattle.commands.specs.Runs.{Runs};
-ghost use Rattle.commands.specs.Stops.{StopsOnly, FaultRises, IsPathOf, held_file};
+ghost use Rattle.used_files.specs.Stops.{StopsOnly, FaultRises};
+ghost use Rattle.commands.specs.JobPaths.{IsPathOf};
+ghost use Rattle.run_ends.specs.OutFiles.{file_seen};
 
-use crate::ijar::strip_input;
-use crate::put::put_files;
-use crate::status::Status;
-use crate::stop::Stop;
-use crate::tell::{tell_refusal, tell_stop};
+use crate::ijar::strip_inputs;
 use command_line::{Command, Job, job_of};
-use hdr_core::{Files, Gate, HeldFile, Outs, Sink};
+use file_contents::LIMITS;
+use hdr_core::{Files, Gate, Outs, Sink};
+use run_ends::{OutFile, Status, put_files, tell_refusal, tell_stop};
 use std::alloc::Global;
 use std::thread::Threads;
+use used_files::Stop;
 
 /// Makes the files of a command: those of its outcome, or else it says why there are none.
-fn make<F: Files>(alloc: Global, command: Command<'_>, files: &mut F) -> Result<Vec<HeldFile>, Stop>
+fn make<F: Files>(alloc: Global, command: Command<'_>, files: &mut F) -> Result<Vec<OutFile>, Stop>
     ensures files { IfOk result (λ list. IfSome (F.held files.old) (λ held.
-        outcome_of (command_seen command.entry) held ≡ made (map held_file list.items))) }
+        outcome_of (command_seen command.entry) held ≡ made (map file_seen list.items))) }
     ensures stops { IfErr result (λ stop. StopsOnly stop
         (λ path. IfSome (F.held files.old)
         (λ held. IsPathOf held (command_seen command.entry) path))
@@ -29,7 +30,7 @@ fn make<F: Files>(alloc: Global, command: Command<'_>, files: &mut F) -> Result<
     ensures faults { FaultRises result (F.faults files.old) (F.faults files.new) }
 {
     match command {
-        Command::Ijar { input, output } => strip_input(alloc, input, output, files),
+        Command::Ijar { inputs, output } => strip_inputs(alloc, LIMITS, &inputs, output, files),
     }
 }
 

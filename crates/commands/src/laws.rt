@@ -3,7 +3,8 @@ ghost use Rattle.class_desc.specs.declared.class.ClassDesc.{ClassDesc};
 ghost use Rattle.class_desc.specs.ClassFile.{IsValid, ClassSpells};
 ghost use Rattle.class_desc.specs.Layout.{layout};
 ghost use Rattle.class_views.specs.Strip.{strip_class};
-ghost use Rattle.class_reader.specs.Reading.{AreBytes, class_of};
+ghost use Rattle.pool_reader.specs.Reading.{AreBytes};
+ghost use Rattle.class_reader.specs.Reading.{class_of};
 ghost use Rattle.class_writer.specs.Refusal.{refusal};
 
 use class_reader::reads_what_is_spelled;

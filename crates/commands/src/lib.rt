@@ -4,14 +4,10 @@
 mod commands;
 mod ijar;
 mod laws;
-mod put;
-mod read;
-mod status;
-mod stop;
-mod tell;
-mod used;
+mod split;
+mod write;
 
 pub use commands::run;
+pub use ijar::strip_inputs;
 pub use laws::stripped_is_read_again;
-pub use status::Status;
-pub use used::used_paths;
+pub use run_ends::Status;

@@ -2,9 +2,9 @@ use Rattle.std.specs.Prelude.{string_bytes}
 use Rattle.std.proofs.Common.{map, refl, sym, ap, subst, ◌∙◌}
 use Rattle.command_line.specs.Words.{Job, job}
 use Rattle.command_line.specs.Seen.{refusal_seen, command_seen, job_seen}
-use Rattle.commands.specs.Outside.{Outside, outside}
+use Rattle.run_ends.specs.Outside.{Outside, outside}
 use Rattle.commands.specs.Runs.{Runs}
-use Rattle.commands.specs.Stops.{held_file}
+use Rattle.run_ends.specs.OutFiles.{file_seen}
 use Rattle.commands.proofs.Runs.{undone, refused, put, stopped}
 use Rattle.commands.proofs.commands.run.Goals as goal
 
@@ -16,44 +16,34 @@ returns-in_default g c =
 
 pub returns-in-Refused : goal.returns-in-Refused
 returns-in-Refused g c =
-    let before : Outside =
-    outside g.F.Files g.O.Outs g.S.Sink c.args.files.now c.args.outs.now c.args.out.now
-    c.args.err.now in
-    let after : Outside =
-    outside g.F.Files g.O.Outs g.S.Sink c.args.files.now c.args.outs.now c.args.out.now
-    c.tell_refusal.new.err in
+    let before : Outside = outside g.F.Files g.O.Outs g.S.Sink c.args.files.now c.args.outs.now
+    c.args.out.now c.args.err.now in
+    let after : Outside = outside g.F.Files g.O.Outs g.S.Sink c.args.files.now c.args.outs.now
+    c.args.out.now c.tell_refusal.new.err in
     let P : Job → Type 0 = λ j. Runs j c.tell_refusal.result before after in
-    subst P (sym (ap job_seen c.in-Refused.is)
-    ∙ c.in-Ok.ensures)
-    (refused before after c.requires refl
-    (refusal_seen c.in-Refused.refusal) refl refl c.tell_refusal.result c.tell_refusal.ensures)
+    subst P (sym (ap job_seen c.in-Refused.is) ∙ c.in-Ok.ensures)
+    (refused before after c.requires refl (refusal_seen c.in-Refused.refusal) refl refl
+    c.tell_refusal.result c.tell_refusal.ensures)
 
 pub returns-in-Ok-make : goal.returns-in-Ok-make
 returns-in-Ok-make g c =
-    let before : Outside =
-    outside g.F.Files g.O.Outs g.S.Sink c.args.files.now c.args.outs.now c.args.out.now
-    c.args.err.now in
-    let after : Outside =
-    outside g.F.Files g.O.Outs g.S.Sink c.make.new.files c.put_files.new.outs c.args.out.now
-    c.args.err.now in
+    let before : Outside = outside g.F.Files g.O.Outs g.S.Sink c.args.files.now c.args.outs.now
+    c.args.out.now c.args.err.now in
+    let after : Outside = outside g.F.Files g.O.Outs g.S.Sink c.make.new.files c.put_files.new.outs
+    c.args.out.now c.args.err.now in
     let P : Job → Type 0 = λ j. Runs j c.put_files.result before after in
-    subst P (sym (ap job_seen c.in-Doing.is)
-    ∙ c.in-Ok.ensures)
+    subst P (sym (ap job_seen c.in-Doing.is) ∙ c.in-Ok.ensures)
     (put before after c.requires refl (command_seen c.in-Doing.command)
-    (map held_file c.in-Ok-make.made.items) c.in-Ok-make.ensures.files c.in-Ok-make.ensures.faults
+    (map file_seen c.in-Ok-make.made.items) c.in-Ok-make.ensures.files c.in-Ok-make.ensures.faults
     refl c.put_files.result (rw c.deref.ensures.value at c.put_files.ensures))
 
 pub returns-in-Err : goal.returns-in-Err
 returns-in-Err g c =
-    let before : Outside =
-    outside g.F.Files g.O.Outs g.S.Sink c.args.files.now c.args.outs.now c.args.out.now
-    c.args.err.now in
-    let after : Outside =
-    outside g.F.Files g.O.Outs g.S.Sink c.make.new.files c.args.outs.now c.args.out.now
-    c.tell_stop.new.err in
+    let before : Outside = outside g.F.Files g.O.Outs g.S.Sink c.args.files.now c.args.outs.now
+    c.args.out.now c.args.err.now in
+    let after : Outside = outside g.F.Files g.O.Outs g.S.Sink c.make.new.files c.args.outs.now
+    c.args.out.now c.tell_stop.new.err in
     let P : Job → Type 0 = λ j. Runs j c.tell_stop.result before after in
-    subst P (sym (ap job_seen c.in-Doing.is)
-    ∙ c.in-Ok.ensures)
-    (stopped before after c.requires refl
-    (command_seen c.in-Doing.command) refl c.in-Err.stop c.in-Err.ensures.faults
-    c.in-Err.ensures.stops c.tell_stop.result c.tell_stop.ensures)
+    subst P (sym (ap job_seen c.in-Doing.is) ∙ c.in-Ok.ensures)
+    (stopped before after c.requires refl (command_seen c.in-Doing.command) refl c.in-Err.stop
+    c.in-Err.ensures.faults c.in-Err.ensures.stops c.tell_stop.result c.tell_stop.ensures)

@@ -1,0 +1,42 @@
+-- The first phase of a job that has a diagnostic.
+use Rattle.std.proofs.Common.{◌≡◌, ℕ, List, [], sym}
+use Rattle.std.specs.Prelude.{Result, Ok, Err, IfErr}
+use Rattle.hdr_core.specs.declared.diagnostics.Diag.{Diag}
+use Rattle.used_files.specs.Paths.{UsedFile}
+use Rattle.used_files.specs.Stops.{IsFilled, StopsOnly, FaultRises}
+use Rattle.used_files.specs.declared.stop.Stop.{Stop}
+use Rattle.used_files.specs.declared.stop.Stop.TheVariants as stop
+use Rattle.file_contents.specs.declared.limits.Limits.{Limits}
+use Rattle.file_contents.specs.declared.items.Item.{Item}
+use Rattle.file_contents.specs.Contents.{items_of}
+use Rattle.file_contents.specs.Phases.{twice, file_phases}
+use Rattle.file_contents.proofs.Reading.{or_first, or_later}
+use Rattle.commands.specs.Phases.{limit_phase, item_phases, first_phase}
+
+pub first_files : (limits : Limits) (files : List UsedFile) (list : List Diag) → IsFilled list
+    → file_phases limits files ≡ list → first_phase limits files ≡ list
+first_files limits files list filled e =
+    or_first (file_phases limits files) (item_phases (items_of files)) list (sym e) filled
+
+pub first_items : (limits : Limits) (files : List UsedFile) → file_phases limits files ≡ []
+    → first_phase limits files ≡ item_phases (items_of files)
+first_items limits files e = or_later (file_phases limits files) (item_phases (items_of files)) e
+
+-- ---- the phases of items
+
+pub told_twice : (items : List Item) (list : List Diag) → IsFilled list → list ≡ twice items
+    → item_phases items ≡ list
+told_twice items list filled e = or_first (twice items) (limit_phase items) list e filled
+
+pub told_limits : (items : List Item) → twice items ≡ [] → item_phases items ≡ limit_phase items
+told_limits items e = or_later (twice items) (limit_phase items) e
+
+-- ---- answers that no fault brings about
+
+pub none_faults : {A : Type 0} (r : Result A Stop) (OnDiags : List Diag → Type 0)
+    (before after : ℕ) → IfErr r (λ stop. StopsOnly stop (λ _. ⊥) OnDiags) → after ≡ before
+    → FaultRises r before after
+none_faults (Ok x) OnDiags before after stops e = e
+none_faults (Err (stop.Fault path)) OnDiags before after stops e = absurd stops
+none_faults (Err (stop.Diagnosed list)) OnDiags before after stops e = e
+none_faults (Err stop.Memory) OnDiags before after stops e = e

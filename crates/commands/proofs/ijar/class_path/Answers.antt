@@ -1,8 +1,0 @@
-use Rattle.std.proofs.lemmas.Str.{IsUtf8-from_ascii}
-use Rattle.commands.proofs.Spelled.{plain_ascii}
-use Rattle.commands.proofs.ijar.class_path.Goals as goal
-
-pub unreachable-requires : goal.unreachable-requires
-unreachable-requires c =
-    c.in_default.ensures.cases.0
-    (IsUtf8-from_ascii c.args.name.now (plain_ascii c.args.name.now c.requires))

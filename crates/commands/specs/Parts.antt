@@ -1,7 +1,0 @@
-use Rattle.std.specs.Prelude.{ℕ, List, Option, Some, None}
-use Rattle.std.specs.Borrow.{Bor}
-
--- the two parts, without where they lie in memory
-abbrev pub parts_seen : Option (Bor (List ℕ) × Bor (List ℕ)) → Option (List ℕ × List ℕ)
-parts_seen None = None
-parts_seen (Some parts) = Some (parts.0.now, parts.1.now)

@@ -1,0 +1,9 @@
+package count;
+
+public class Counter {
+    public int total;
+
+    public void add() {
+        total = total + 1;
+    }
+}
