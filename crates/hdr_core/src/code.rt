@@ -5,14 +5,13 @@ use std::cmp::Ordering;
 
 /// What a diagnostic is about. The order is that in which they are printed for one line.
 ///
-/// F0 and S0 stand while some class files and some sources are not read yet.
+/// S0 stands while some sources are not read yet.
 #[derive(Clone, Copy, Debug, PartialEq, Eq)]
 pub enum Code {
     L1,
     L7,
     L8,
     L10,
-    F0,
     F1,
     F2,
     F3,
@@ -71,12 +70,11 @@ pub enum Code {
 }
 
 /// Each code, in their order, with its name and with what it says.
-pub const CODES: [(Code, &[u8], &[u8]); 60] = [
+pub const CODES: [(Code, &[u8], &[u8]); 59] = [
     (Code::L1, b"L1", b"file is longer than 16777216 bytes"),
     (Code::L7, b"L7", b"more than 1073741824 bytes in all"),
     (Code::L8, b"L8", b"more than 1048576 files"),
     (Code::L10, b"L10", b"no such file"),
-    (Code::F0, b"F0", b"not read in this stage"),
     (Code::F1, b"F1", b"class file is cut short"),
     (Code::F2, b"F2", b"not a class file"),
     (Code::F3, b"F3", b"unsupported version"),
