@@ -1,9 +1,7 @@
 -- The grammar of class files (JVMS 4.1), over a free pool: its entries may stand in any order, be
 -- unused or repeated.
--- For now no attribute that a description keeps is spelled; every other one is passed over.
-use Rattle.std.specs.Prelude.{◌≡◌, ℕ, ◌+◌, ◌<◌, ◌≤◌, ◌^◌, ◌==◌, ◌&&◌, Bool, true, false, bit_and}
-use Rattle.std.specs.Prelude.{List, [], ◌∷◌, ◌++◌, length, map, codes, Option, Some, None}
-use Rattle.std.specs.Prelude.{if◌then◌else◌}
+use Rattle.std.specs.Prelude.{◌≡◌, ℕ, ◌+◌, ◌<◌, ◌≤◌, ◌^◌, ◌&&◌, Bool, true, false, List, []}
+use Rattle.std.specs.Prelude.{◌∷◌, ◌++◌, length, map, codes, Option, Some, None}
 use Rattle.std.specs.List.{flat_map, AllByRecursion, IsDistinct}
 use Rattle.std.specs.Int.{w16, w32, to_be_bytes}
 use Rattle.class_desc.specs.declared.attribute.Attr.{Attr}
@@ -12,65 +10,14 @@ use Rattle.class_desc.specs.declared.class.FieldDesc.{FieldDesc}
 use Rattle.class_desc.specs.declared.class.MethodDesc.{MethodDesc}
 use Rattle.class_desc.specs.declared.place.Place.{Place}
 use Rattle.class_desc.specs.declared.place.Place.TheVariants as place
-use Rattle.java_names.specs.ModifiedUtf8.{IsModifiedUtf8}
-use Rattle.java_names.specs.Names.{is_text, is_class_name, is_field_name, is_method_name}
-use Rattle.java_types.specs.declared.types.JType.{JType}
-use Rattle.java_types.specs.declared.types.JSig.TheVariants.{OfMethod, OfField}
-use Rattle.java_types.specs.Descriptor.{DescriptorSpells}
-use Rattle.descriptor_scan.specs.Forms.{slots}
-use Rattle.class_desc.specs.Places.{keeps}
-use Rattle.class_desc.specs.Pool.{Entry, entry_bytes, EntryFits, numbered, NamesText, NamesClass}
+use Rattle.java_names.specs.Names.{is_text}
+use Rattle.class_desc.specs.Attributes.{AttributesSpell}
+use Rattle.class_desc.specs.Forms.{IsFieldName, IsMethodName, IsFieldDescriptor}
+use Rattle.class_desc.specs.Forms.{IsMethodDescriptor}
+use Rattle.class_desc.specs.Items.{NamesTextOf, NamesClassOf, CountedSpells}
+use Rattle.class_desc.specs.Pool.{Entry, entry_bytes, EntryFits, numbered}
 
--- ---- forms of texts
-
--- JVMS 4.2.1
-abbrev pub IsClassName : List ℕ → Type 0
-IsClassName text = is_class_name text ≡ true
-
--- JVMS 4.2.2
-abbrev pub IsFieldName : List ℕ → Type 0
-IsFieldName text = is_field_name text ≡ true
-
--- JVMS 4.2.2, with <init> and <clinit> (JVMS 2.9.1, 2.9.2)
-abbrev pub IsMethodName : List ℕ → Type 0
-IsMethodName text = is_method_name text ≡ true
-
--- the descriptor of a field (JVMS 4.3.2)
-abbrev pub IsFieldDescriptor : List ℕ → Type 0
-IsFieldDescriptor text = (type : JType) × DescriptorSpells (OfField type) text
-
--- the flag of a method without this (JVMS table 4.6-A)
-abbrev pub static_flag : ℕ
-static_flag = 0x0008
-
--- how many slots this takes in a method of these flags (JVMS 4.3.3)
-abbrev pub this_slots : ℕ → ℕ
-this_slots flags = if bit_and flags static_flag == 0 then 1 else 0
-
--- The descriptor of a method of these flags, whatever its name (JVMS 4.3.3): at most 255 slots.
-pub record IsMethodDescriptor (flags : ℕ) (text : List ℕ) : Type 0 where
-  pub formals : List JType
-  pub ret : JType
-  pub spells : DescriptorSpells (OfMethod [] formals ret []) text
-  pub few : slots formals + this_slots flags ≤ 255
-
--- ---- what numbers name
-
--- the number names this text, which has this form
-pub record NamesForm (Names : ℕ → List ℕ → Type 0) (IsForm : List ℕ
-    → Type 0) (n : ℕ) (text : List ℕ) : Type 0 where
-  pub fits : n < 2 ^ 16
-  pub named : Names n text
-  pub modified : IsModifiedUtf8 text
-  pub form : IsForm text
-
--- the number is that of a text of this form
-abbrev pub NamesTextOf : List Entry → (List ℕ → Type 0) → ℕ → List ℕ → Type 0
-NamesTextOf pool IsForm = NamesForm (NamesText pool) IsForm
-
--- the number is that of a class with this name
-abbrev pub NamesClassOf : List Entry → ℕ → List ℕ → Type 0
-NamesClassOf pool = NamesForm (NamesClass pool) IsClassName
+-- ---- the head of a class
 
 -- the name of the class that has no superclass
 abbrev pub object_name : List ℕ
@@ -89,31 +36,6 @@ NamesClasses pool (n ∷ ns) (name ∷ names) = NamesClassOf pool n name × Name
 NamesClasses pool [] (name ∷ names) = ⊥
 NamesClasses pool (n ∷ ns) [] = ⊥
 
--- ---- attributes
-
--- an attribute as it stands in the file (JVMS 4.7): the number of its name, and its body
-pub record RawAttribute : Type 0 where
-  pub name : ℕ
-  pub body : List ℕ
-
-abbrev pub attribute_bytes : RawAttribute → List ℕ
-attribute_bytes a = to_be_bytes w16 a.name ++ (to_be_bytes w32 (length a.body) ++ a.body)
-
--- an attribute that is passed over: a description keeps none of this name here
-pub record IsPassed (pool : List Entry) (place : Place) (a : RawAttribute) : Type 0 where
-  pub name : List ℕ
-  pub named : NamesTextOf pool (λ name. keeps place name ≡ false) a.name name
-  pub fits : length a.body < 2 ^ 32
-
--- a counted list of attributes, of which these are kept
-pub record AttributesSpell (pool : List Entry) (place : Place) (kept : List Attr)
-    (bytes : List ℕ) : Type 0 where
-  pub raw : List RawAttribute
-  pub count : length raw < 2 ^ 16
-  pub whole : bytes ≡ to_be_bytes w16 (length raw) ++ flat_map attribute_bytes raw
-  pub each : AllByRecursion (IsPassed pool place) raw
-  pub none_kept : kept ≡ []
-
 -- ---- members
 
 -- a field or a method (JVMS 4.5, 4.6), whose name and descriptor have these forms
@@ -128,7 +50,7 @@ pub record MemberSpells (pool : List Entry) (place : Place) (IsName IsDescriptor
         ++ (to_be_bytes w16 name_number ++ (to_be_bytes w16 descriptor_number ++ attributes))
     pub named : NamesTextOf pool IsName name_number name
     pub described : NamesTextOf pool IsDescriptor descriptor_number descriptor
-    pub attributed : AttributesSpell pool place kept attributes
+    pub attributed : AttributesSpell pool place descriptor kept attributes
 
 abbrev pub FieldSpells : List Entry → FieldDesc → List ℕ → Type 0
 FieldSpells pool f bytes =
@@ -139,20 +61,6 @@ abbrev pub MethodSpells : List Entry → MethodDesc → List ℕ → Type 0
 MethodSpells pool m bytes =
     MemberSpells pool place.Method IsMethodName (IsMethodDescriptor m.flags) m.flags m.name
     m.descriptor m.attrs bytes
-
--- the items, one behind the other
-abbrev pub EachSpells : {A : Type 0} → (A → List ℕ → Type 0) → List A → List ℕ → Type 0
-EachSpells Spells [] bytes = bytes ≡ []
-EachSpells Spells (item ∷ items) bytes = (front : List ℕ) × (rest : List ℕ)
-    × (bytes ≡ front ++ rest) × Spells item front × EachSpells Spells items rest
-
--- the items behind their count
-pub record CountedSpells {A : Type 0} (Spells : A → List ℕ
-    → Type 0) (items : List A) (bytes : List ℕ) : Type 0 where
-  pub rest : List ℕ
-  pub count : length items < 2 ^ 16
-  pub whole : bytes ≡ to_be_bytes w16 (length items) ++ rest
-  pub each : EachSpells Spells items rest
 
 -- ---- the class
 
@@ -211,7 +119,7 @@ pub record SpellsOver (d : ClassDesc) (bytes : List ℕ) (pool : List Entry) : T
   pub distinct_fields : IsDistinct is_key (map field_key d.fields)
   pub methods : CountedSpells (MethodSpells pool) d.methods parts.methods
   pub distinct_methods : IsDistinct is_key (map method_key d.methods)
-  pub attributes : AttributesSpell pool place.Class d.attrs parts.attributes
+  pub attributes : AttributesSpell pool place.Class [] d.attrs parts.attributes
 
 -- the bytes spell the description
 abbrev pub ClassSpells : ClassDesc → List ℕ → Type 0

@@ -15,39 +15,26 @@ use Rattle.class_desc.specs.declared.attribute.Attr.TheOpen.{Attr-F, ComponentDe
 use Rattle.class_desc.specs.declared.attribute.ComponentDesc.{ComponentDesc, fold-ComponentDesc}
 use Rattle.class_desc.specs.declared.attribute.InnerEntry.{InnerEntry}
 use Rattle.class_desc.specs.declared.attribute.ParamEntry.{ParamEntry}
-use Rattle.class_desc.specs.declared.attribute_name.TheConstants.{CONSTANT_VALUE, EXCEPTIONS}
-use Rattle.class_desc.specs.declared.attribute_name.TheConstants.{SIGNATURE, DEPRECATED}
-use Rattle.class_desc.specs.declared.attribute_name.TheConstants.{SYNTHETIC, INNER_CLASSES}
-use Rattle.class_desc.specs.declared.attribute_name.TheConstants.{RECORD, PERMITTED_SUBCLASSES}
-use Rattle.class_desc.specs.declared.attribute_name.TheConstants.{ANNOTATION_DEFAULT}
-use Rattle.class_desc.specs.declared.attribute_name.TheConstants.{METHOD_PARAMETERS}
-use Rattle.class_desc.specs.declared.attribute_name.TheConstants.{VISIBLE_ANNOTATIONS}
-use Rattle.class_desc.specs.declared.attribute_name.TheConstants.{INVISIBLE_ANNOTATIONS}
-use Rattle.class_desc.specs.declared.attribute_name.TheConstants.{VISIBLE_PARAMETER_ANNOTATIONS}
-use Rattle.class_desc.specs.declared.attribute_name.TheConstants.{INVISIBLE_PARAMETER_ANNOTATIONS}
+use Rattle.class_desc.specs.declared.constant_kind.NumberKind.{NumberKind}
+use Rattle.class_desc.specs.declared.constant_kind.NumberKind.TheVariants as kind
+use Rattle.class_desc.specs.declared.element_tag.TheConstants.{ENUMERATED, CLASS, ANNOTATION, LIST}
 use Rattle.class_desc.specs.declared.class.ClassDesc.{ClassDesc}
 use Rattle.class_desc.specs.declared.class.FieldDesc.{FieldDesc}
 use Rattle.class_desc.specs.declared.class.MethodDesc.{MethodDesc}
 use Rattle.class_desc.specs.declared.value.Value.{Value}
 use Rattle.class_desc.specs.declared.value.Value.TheVariants as constant
 use Rattle.java_names.specs.Names.{is_text}
+use Rattle.class_desc.specs.Places.{layer_name}
 use Rattle.class_desc.specs.ClassFile.{magic}
 
 -- ---- entries of the pool
 
--- the kinds of numbers (JVMS 4.4.4, 4.4.5)
-pub data NumberKind : Type 0 where
-  Integer : NumberKind
-  Float : NumberKind
-  Long : NumberKind
-  Double : NumberKind
-
 -- JVMS table 4.4-A
 abbrev pub number_tag : NumberKind → ℕ
-number_tag Integer = 3
-number_tag Float = 4
-number_tag Long = 5
-number_tag Double = 6
+number_tag kind.Integer = 3
+number_tag kind.Float = 4
+number_tag kind.Long = 5
+number_tag kind.Double = 6
 
 -- what something in a class file needs in the pool, by what it says
 pub data Need : Type 0 where
@@ -76,10 +63,10 @@ with_its_text (NumberNeed kind bits) = NumberNeed kind bits ∷ []
 
 -- how many numbers an entry takes: a long and a double take the one behind theirs too (JVMS 4.4.5)
 abbrev pub kind_width : NumberKind → ℕ
-kind_width Integer = 1
-kind_width Float = 1
-kind_width Long = 2
-kind_width Double = 2
+kind_width kind.Integer = 1
+kind_width kind.Float = 1
+kind_width kind.Long = 2
+kind_width kind.Double = 2
 
 abbrev pub width : Need → ℕ
 width (TextNeed text) = 1
@@ -93,10 +80,10 @@ number_in [] need = 1
 number_in (first ∷ pool) need = if is_need need first then 1 else width first + number_in pool need
 
 abbrev pub bits_bytes : NumberKind → ℕ → List ℕ
-bits_bytes Integer bits = to_be_bytes w32 bits
-bits_bytes Float bits = to_be_bytes w32 bits
-bits_bytes Long bits = to_be_bytes w64 bits
-bits_bytes Double bits = to_be_bytes w64 bits
+bits_bytes kind.Integer bits = to_be_bytes w32 bits
+bits_bytes kind.Float bits = to_be_bytes w32 bits
+bits_bytes kind.Long bits = to_be_bytes w64 bits
+bits_bytes kind.Double bits = to_be_bytes w64 bits
 
 -- the bytes of an entry of the pool: its tag, and what stands behind it
 abbrev pub need_bytes : List Need → Need → List ℕ
@@ -170,34 +157,22 @@ for_parameters items list = ParameterCount (length list) ∷ flat_map items list
 
 -- the entry of a constant is that of its own kind; what a text gives depends on its place
 abbrev pub constant_need : (List ℕ → Need) → Value → Need
-constant_need of_text (constant.Integer number) = NumberNeed Integer (cast_unsigned w32 number)
-constant_need of_text (constant.Long number) = NumberNeed Long (cast_unsigned w64 number)
-constant_need of_text (constant.Raw32 bits) = NumberNeed Float bits
-constant_need of_text (constant.Raw64 bits) = NumberNeed Double bits
+constant_need of_text (constant.Integer number) = NumberNeed kind.Integer (cast_unsigned w32 number)
+constant_need of_text (constant.Long number) = NumberNeed kind.Long (cast_unsigned w64 number)
+constant_need of_text (constant.Raw32 bits) = NumberNeed kind.Float bits
+constant_need of_text (constant.Raw64 bits) = NumberNeed kind.Double bits
 constant_need of_text (constant.Str text) = of_text text
 
 -- ---- values and annotations (JVMS 4.7.16, 4.7.16.1, 4.7.17), each made of the items of its parts
 
-abbrev pub enumerated_tag : ℕ
-enumerated_tag = 0x65
-
-abbrev pub class_tag : ℕ
-class_tag = 0x63
-
-abbrev pub annotation_tag : ℕ
-annotation_tag = 0x40
-
-abbrev pub list_tag : ℕ
-list_tag = 0x5B
-
 abbrev pub value_layer : ElemValue-F (List Item) (List Item) (List Item) → List Item
 value_layer (ElemValue-F.Const tag value) = Tag tag ∷ EntryNumber (constant_need TextNeed value)
     ∷ []
-value_layer (ElemValue-F.Enumerated descriptor name) = Tag enumerated_tag ∷ text_item descriptor
+value_layer (ElemValue-F.Enumerated descriptor name) = Tag ENUMERATED ∷ text_item descriptor
     ∷ text_item name ∷ []
-value_layer (ElemValue-F.ClassOf descriptor) = Tag class_tag ∷ text_item descriptor ∷ []
-value_layer (ElemValue-F.Nested annotation) = Tag annotation_tag ∷ annotation
-value_layer (ElemValue-F.List values) = Tag list_tag ∷ counted (λ value. value) values
+value_layer (ElemValue-F.ClassOf descriptor) = Tag CLASS ∷ text_item descriptor ∷ []
+value_layer (ElemValue-F.Nested annotation) = Tag ANNOTATION ∷ annotation
+value_layer (ElemValue-F.List values) = Tag LIST ∷ counted (λ value. value) values
 
 abbrev pub annotation_layer : AnnDesc-F (List Item) (List Item) (List Item) → List Item
 annotation_layer a = text_item a.descriptor ∷ counted (λ element. element) a.elements
@@ -247,27 +222,6 @@ class_list names = counted (λ name. class_item name ∷ []) names
 -- JVMS 4.7.16, 4.7.17; in 4.7.18 and 4.7.19 one for each parameter
 abbrev pub annotation_list : List AnnDesc → List Item
 annotation_list annotations = counted annotation_items annotations
-
--- the name of an attribute of each kind (JVMS table 4.7-A)
-abbrev pub layer_name : {A C : Type 0} → Attr-F A C → List ℕ
-layer_name (Attr-F.ConstantValue value) = CONSTANT_VALUE.now
-layer_name (Attr-F.Exceptions names) = EXCEPTIONS.now
-layer_name (Attr-F.Signature text) = SIGNATURE.now
-layer_name Attr-F.Deprecated = DEPRECATED.now
-layer_name Attr-F.Synthetic = SYNTHETIC.now
-layer_name (Attr-F.InnerClasses entries) = INNER_CLASSES.now
-layer_name (Attr-F.Components components) = RECORD.now
-layer_name (Attr-F.PermittedSubclasses names) = PERMITTED_SUBCLASSES.now
-layer_name (Attr-F.AnnotationDefault value) = ANNOTATION_DEFAULT.now
-layer_name (Attr-F.MethodParameters entries) = METHOD_PARAMETERS.now
-layer_name (Attr-F.VisibleAnns annotations) = VISIBLE_ANNOTATIONS.now
-layer_name (Attr-F.InvisibleAnns annotations) = INVISIBLE_ANNOTATIONS.now
-layer_name (Attr-F.VisibleParamAnns lists) = VISIBLE_PARAMETER_ANNOTATIONS.now
-layer_name (Attr-F.InvisibleParamAnns lists) = INVISIBLE_PARAMETER_ANNOTATIONS.now
-
--- the name of an attribute
-unfoldable pub attribute_name : Attr → List ℕ
-attribute_name attr = layer_name (out-Attr attr)
 
 -- The body of an attribute of each kind, by the items of a component: in the order of the cases
 -- JVMS 4.7.2, 4.7.5, 4.7.9, 4.7.15, 4.7.8, 4.7.6, 4.7.30, 4.7.31, 4.7.22, 4.7.24, and 4.7.16 to

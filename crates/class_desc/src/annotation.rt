@@ -5,6 +5,9 @@ use hdr_core::{List, Memory, Text, TryCopy};
 use sqlite_items::Boxed;
 use std::alloc::Global;
 
+/// How deep values may be nested: one in no other value is 1 deep.
+pub const DEEPEST_VALUE: u32 = 64;
+
 /// An annotation (JVMS 4.7.16).
 #[cycle(annotation)]
 #[derive(Drop)]

@@ -1,6 +1,8 @@
 ghost use Rattle.std.specs.Prelude.{◌≡◌, IfOk};
+ghost use Rattle.class_desc.specs.Places.{attribute_kind, attribute_name};
 
 use crate::annotation::{AnnDesc, ElemValue};
+use crate::attribute_kind::AttributeKind;
 use crate::value::Value;
 use hdr_core::{List, Memory, Text, TryCopy, copy_three};
 use std::alloc::Global;
@@ -55,6 +57,36 @@ pub struct ParamEntry {
 }
 
 impl Attr {
+    /// What it is.
+    pub fn kind(&self) -> AttributeKind
+        ensures { result ≡ attribute_kind self.now }
+    {
+        match self {
+            Attr::ConstantValue(_) => AttributeKind::ConstantValue,
+            Attr::Exceptions(_) => AttributeKind::Exceptions,
+            Attr::Signature(_) => AttributeKind::Signature,
+            Attr::Deprecated => AttributeKind::Deprecated,
+            Attr::Synthetic => AttributeKind::Synthetic,
+            Attr::InnerClasses(_) => AttributeKind::InnerClasses,
+            Attr::Components(_) => AttributeKind::Record,
+            Attr::PermittedSubclasses(_) => AttributeKind::PermittedSubclasses,
+            Attr::AnnotationDefault(_) => AttributeKind::AnnotationDefault,
+            Attr::MethodParameters(_) => AttributeKind::MethodParameters,
+            Attr::VisibleAnns(_) => AttributeKind::VisibleAnnotations,
+            Attr::InvisibleAnns(_) => AttributeKind::InvisibleAnnotations,
+            Attr::VisibleParamAnns(_) => AttributeKind::VisibleParameterAnnotations,
+            Attr::InvisibleParamAnns(_) => AttributeKind::InvisibleParameterAnnotations,
+        }
+    }
+
+    /// The name that it has in class files.
+    #[tactic(auto, unfolding(crate::specs::Places::attribute_name))]
+    pub fn name(&self) -> &'static [u8]
+        ensures { result.now ≡ attribute_name self.now }
+    {
+        self.kind().name()
+    }
+
     #[cycle(copy_attribute)]
     pub fn copy(&self, alloc: Global) -> Result<Attr, Memory>
         ensures { IfOk result (λ copy. copy ≡ self.now) }
