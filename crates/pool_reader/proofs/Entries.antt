@@ -1,9 +1,9 @@
 -- An entry of the pool, by what stands behind its tag.
-use Rattle.std.proofs.Common.{◌≡◌, ℕ, ◌+◌, ◌^◌, ◌<◌, ◌≤◌, Bool, true, false, true≢false, cond, eqb}
-use Rattle.std.proofs.Common.{List, [], ◌∷◌, ◌++◌, length, take, drop, Option, Some, None, Ok, Err}
+use Rattle.std.proofs.Common.{◌≡◌, ℕ, ◌+◌, ◌^◌, ◌<◌, ◌≤◌, Bool, true, false, true≢false, eqb}
+use Rattle.std.proofs.Common.{List, [], ◌∷◌, ◌++◌, length, take, drop, Option, Some, None, Ok}
 use Rattle.std.proofs.Common.{refl, sym, ap, subst, ◌∙◌, arith, inl, inr}
 use Rattle.std.specs.Prelude.{sum, option_map}
-use Rattle.std.specs.Int.{Width, w8, w16, w32, w64, to_be_bytes}
+use Rattle.std.specs.Int.{Width, w16, w32, w64, to_be_bytes}
 use Rattle.std.proofs.lemmas.Bool.{eqb-true, eqb-false}
 use Rattle.std.proofs.lemmas.List.{nil_from_length, take-append-drop, length-append, length-take}
 use Rattle.std.proofs.lemmas.List.{length-drop}
@@ -12,8 +12,8 @@ use Rattle.class_desc.specs.Pool.{Entry, Utf8, Integer, Float, Long, Double, Cla
 use Rattle.class_desc.specs.Pool.{Other}
 use Rattle.class_desc.specs.Pool.{other_fields, other_length, entry_bytes, EntryFits, is_wide}
 use Rattle.pool_reader.specs.declared.fault.ClassKind.TheVariants.{F4, F5}
-use Rattle.pool_reader.specs.Reading.{◌>>=◌, Position, offset, fault_at, number_at, piece_at}
-use Rattle.pool_reader.specs.Pooled.{made_of, text_entry_at, wide_entry_at, fields_at}
+use Rattle.pool_reader.specs.Reading.{◌>>=◌, offset, fault_at, piece_at}
+use Rattle.pool_reader.specs.Pooled.{text_entry_at, wide_entry_at, fields_at}
 use Rattle.pool_reader.specs.Pooled.{other_entry_at, behind_tag, entry_at}
 use Rattle.pool_reader.proofs.Laws.{Reads, reads_as, Given, reads_given, Then, joined, reads_then}
 use Rattle.pool_reader.proofs.Laws.{Either, reads_if, Never, reads_never, Made, reads_made}

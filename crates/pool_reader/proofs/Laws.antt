@@ -5,7 +5,7 @@ use Rattle.std.proofs.Common.{List, [], ◌∷◌, ◌++◌, length, get_or, Res
 use Rattle.std.proofs.Common.{subst, ◌∙◌, append_assoc, append-nil, arith, inl, inr}
 use Rattle.std.specs.List.{flat_map, AllByRecursion}
 use Rattle.std.proofs.lemmas.List.Concat.{flat_map-cons}
-use Rattle.class_desc.specs.ClassFile.{EachSpells}
+use Rattle.class_desc.specs.Items.{EachSpells}
 use Rattle.pool_reader.specs.declared.fault.ClassFault.{ClassFault}
 use Rattle.pool_reader.specs.Reading.{AreBytes, ◌>>=◌, Position, leaving, Read, times, pass_all}
 

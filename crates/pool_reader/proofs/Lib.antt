@@ -1,4 +1,5 @@
 pub mod Ascii
+pub mod Bodies
 pub mod Entries
 pub mod Laws
 pub mod Named

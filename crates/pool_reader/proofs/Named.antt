@@ -1,6 +1,6 @@
 -- What the rows of a pool tell of a number is what the pool has there.
 use Rattle.std.proofs.Common.{◌≡◌, ℕ, ◌-◌, Bool, true, false, cond, eqb, List, Option, Some, None}
-use Rattle.std.proofs.Common.{Result, Ok, Err, refl, sym, ap, subst, ◌∙◌}
+use Rattle.std.proofs.Common.{Result, Ok, refl, sym, ap, subst, ◌∙◌}
 use Rattle.std.specs.Prelude.{option_map, slice_get}
 use Rattle.std.proofs.lemmas.Option.{slice_get-map}
 use Rattle.java_names.specs.ModifiedUtf8.{IsModifiedUtf8}
@@ -14,10 +14,10 @@ use Rattle.pool_reader.specs.declared.fault.ClassKind.{ClassKind}
 use Rattle.pool_reader.specs.Pooled.{Row, TextRow, MalformedRow, slot_row, rows_of, row_in}
 use Rattle.pool_reader.specs.Pooled.{text_of_row, text_named, class_of_row, class_named}
 
-slot_in : List Entry → ℕ → Option Slot
+pub slot_in : List Entry → ℕ → Option Slot
 slot_in pool n = cond (eqb n 0) None (slice_get (numbered pool) (n - 1))
 
-row_is : (pool : List Entry) (n : ℕ) → row_in (rows_of pool) n
+pub row_is : (pool : List Entry) (n : ℕ) → row_in (rows_of pool) n
     ≡ option_map slot_row (slot_in pool n)
 unfolding slot_in
 row_is pool n = by (eqb n 0)
@@ -28,7 +28,7 @@ row_is pool n = by (eqb n 0)
     by true = refl
     by false = slice_get-map slot_row (numbered pool) (n - 1)
 
-entry_is : (pool : List Entry) (n : ℕ) → entry_of pool n ≡ held_in (slot_in pool n)
+pub entry_is : (pool : List Entry) (n : ℕ) → entry_of pool n ≡ held_in (slot_in pool n)
 unfolding slot_in
 entry_is pool n = by (eqb n 0)
   where

@@ -10,9 +10,9 @@ use Rattle.std.proofs.lemmas.List.{length-map}
 use Rattle.java_names.specs.Units.{is_modified_utf8}
 use Rattle.class_desc.specs.Pool.{Entry, Utf8, Integer, Float, Long, Double, ClassRef, StringRef}
 use Rattle.class_desc.specs.Pool.{Other}
-use Rattle.class_desc.specs.Pool.{entry_bytes, EntryFits, is_wide, slots_of, numbered}
+use Rattle.class_desc.specs.Pool.{entry_bytes, EntryFits, is_wide, numbered}
 use Rattle.pool_reader.specs.declared.fault.ClassKind.TheVariants.{F5}
-use Rattle.pool_reader.specs.Reading.{◌>>=◌, Position, told, number_at}
+use Rattle.pool_reader.specs.Reading.{◌>>=◌, told}
 use Rattle.pool_reader.specs.Pooled.{Row, TextRow, MalformedRow, UnreadRow, row_of, slot_row}
 use Rattle.pool_reader.specs.Pooled.{rows_of}
 use Rattle.pool_reader.specs.Pooled.{is_wide_row, row_at, rows_at, pool_at}

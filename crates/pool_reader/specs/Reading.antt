@@ -1,11 +1,12 @@
 -- Reading from front to back, item by item, up to the first check that fails.
-use Rattle.std.specs.Prelude.{◌≡◌, ℕ, zero, suc, ◌-◌, ◌<◌, ◌^◌, Bool, List, [], ◌∷◌, length, take}
+use Rattle.std.specs.Prelude.{◌≡◌, ℕ, zero, suc, ◌-◌, ◌<◌, ◌^◌, List, [], ◌∷◌, length, take}
 use Rattle.std.specs.Prelude.{drop}
-use Rattle.std.specs.Prelude.{Option, Some, None, Result, Ok, Err, nat_lt, if◌then◌else◌}
-use Rattle.std.specs.Int.{Width, byte_len, from_be_bytes}
+use Rattle.std.specs.Prelude.{Option, Some, None, Result, Ok, Err, nat_lt, ◌==◌}
+use Rattle.std.specs.Prelude.{if◌then◌else◌}
+use Rattle.std.specs.Int.{Width, w32, byte_len, from_be_bytes}
 use Rattle.std.specs.List.{AllByRecursion}
 use Rattle.pool_reader.specs.declared.fault.ClassKind.{ClassKind}
-use Rattle.pool_reader.specs.declared.fault.ClassKind.TheVariants.{F1, F8}
+use Rattle.pool_reader.specs.declared.fault.ClassKind.TheVariants.{F1, F8, F10}
 use Rattle.pool_reader.specs.declared.fault.ClassFault.{ClassFault}
 use Rattle.pool_reader.specs.declared.fault.ReadErr.{ReadErr}
 use Rattle.pool_reader.specs.declared.fault.ReadErr.TheVariants as errors
@@ -97,3 +98,29 @@ times read (suc n) p = do
 unfoldable pub pass_all : (Position → Read (Unit {0})) → ℕ → Position → Read (Unit {0})
 pass_all read zero p = Ok (tt, p)
 pass_all read (suc n) p = read p >>= λ item. pass_all read n item.1
+
+-- ---- bodies of attributes (JVMS 4.7)
+
+-- The body behind its length, as a reading of its own. An item of it that isn't whole is told at
+-- the length.
+unfoldable pub body_at : Position → Read Position
+body_at p = do
+  count ← number_at w32 p
+  body ← piece_at count.0 count.1
+  Ok (record { rest = body.0; end = offset body.1; outer = Some (offset p) }, body.1)
+
+abbrev pub left_over : Position → Option ℕ → ClassFault
+left_over p None = told p F10
+left_over p (Some length_at) = fault_at length_at F8
+
+-- that no byte is left of the file, or of the body
+abbrev pub ended : Position → Result (Unit {0}) ClassFault
+ended p = if length p.rest == 0 then Ok tt else Err (left_over p p.outer)
+
+-- an item that is the whole body of an attribute
+abbrev pub within : {A : Type 0} → (Position → Read A) → Position → Read A
+within read p = do
+  body ← body_at p
+  item ← read body.0
+  end ← ended item.1
+  Ok (item.0, body.1)

@@ -6,8 +6,6 @@ use std::alloc::{AllocError, AllocFailed};
 /// Which check of a class file failed.
 #[derive(Clone, Copy, Debug, PartialEq, Eq)]
 pub enum ClassKind {
-    /// An attribute that isn't read yet.
-    NotYet,
     /// An item isn't whole.
     F1,
     /// It is no class file.
@@ -20,16 +18,18 @@ pub enum ClassKind {
     F5,
     /// A text is no modified UTF-8.
     F6,
-    /// A name, a descriptor or a signature hasn't its form.
+    /// A name, a descriptor or a signature hasn't its form, or the tag of a value is unknown.
     F7,
     /// The length of an attribute is wrong.
     F8,
-    /// A member stands twice.
+    /// A member, an attribute or an inner class stands twice.
     F9,
     /// Bytes follow the end.
     F10,
     /// The superclass is wrong, or the flag of modules is set.
     F11,
+    /// A value or a signature is nested too deep.
+    F12,
 }
 
 /// The first check that failed, and the offset of the item that it is about.

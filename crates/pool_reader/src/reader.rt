@@ -2,7 +2,8 @@ ghost use Rattle.std.specs.Prelude.{◌≡◌, ◌<◌, ◌^◌, ◌==◌, lengt
 ghost use Rattle.std.specs.Int.{w8, w16, w32, w64};
 ghost use Rattle.pool_reader.specs.declared.fault.ReadErr.TheVariants.{Fault};
 ghost use Rattle.pool_reader.specs.Reading.{Gives, cut as cut_of, offset as offset_of};
-ghost use Rattle.pool_reader.specs.Reading.{number_at, piece_at, start};
+ghost use Rattle.pool_reader.specs.Reading.{number_at, piece_at, start, body_at, Answers};
+ghost use Rattle.pool_reader.specs.Reading.{ended, left_over as left_over_of};
 
 use crate::fault::{ClassKind, ReadErr};
 use std::marker::Model;
@@ -117,5 +118,42 @@ impl<'a> Reader<'a> {
     {
         let b = self.piece(8)?;
         Ok(u64::from_be_bytes([b[0], b[1], b[2], b[3], b[4], b[5], b[6], b[7]]))
+    }
+
+    /// A reader of the body of an attribute, whose length is the next item (JVMS 4.7). This one
+    /// goes on behind the body.
+    #[tactic(auto, unfolding(crate::specs::Reading::body_at))]
+    pub fn body(&mut self) -> Result<Reader<'a>, ReadErr>
+        ensures { Gives (λ body. body) result self.new (body_at self.old) }
+    {
+        let length_at = self.offset();
+        let count = self.u32()?;
+        let rest = self.piece(count as usize)?;
+        Ok(Reader {
+            rest,
+            end: self.offset(),
+            outer: Some(length_at),
+        })
+    }
+
+    /// The fault of bytes that are left.
+    fn left_over(&self) -> ReadErr
+        ensures { result ≡ Fault (left_over_of self.now self.now.outer) }
+    {
+        match self.outer {
+            None => ClassKind::F10.at(self.offset()),
+            Some(outer) => ClassKind::F8.at(outer),
+        }
+    }
+
+    /// That no byte is left: F10 in a file, F8 in a body.
+    pub fn finish(&self) -> Result<(), ReadErr>
+        ensures { Answers (λ _. tt) result (ended self.now) }
+    {
+        if self.is_empty() {
+            Ok(())
+        } else {
+            Err(self.left_over())
+        }
     }
 }
