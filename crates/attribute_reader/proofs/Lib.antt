@@ -1,0 +1,15 @@
+pub mod Adding
+pub mod AttributeLaws
+pub mod BodyLaws
+pub mod ConstantLaws
+pub mod Distinct
+pub mod FormLaws
+pub mod InnerLoops
+pub mod ItemLaws
+pub mod Keys
+pub mod KindNames
+pub mod ListLaws
+pub mod Loops
+pub mod Ranks
+pub mod SpelledAttributes
+pub mod ValueLaws

@@ -1,0 +1,5 @@
+pub mod Attributes
+pub mod Forms
+pub mod Items
+pub mod Laws
+pub mod Values
