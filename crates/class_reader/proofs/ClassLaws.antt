@@ -1,5 +1,5 @@
 -- The whole class: what is read is spelled, and what is spelled is read.
-use Rattle.std.proofs.Common.{◌≡◌, ℕ, ◌+◌, ◌^◌, ◌<◌, Bool, true, false, cond, eqb, List, [], ◌∷◌}
+use Rattle.std.proofs.Common.{◌≡◌, ℕ, ◌+◌, Bool, true, false, cond, eqb, List, []}
 use Rattle.std.proofs.Common.{◌++◌}
 use Rattle.std.proofs.Common.{length, Option, None, Result, Ok, Err, refl, sym, ap, subst, ◌∙◌}
 use Rattle.std.proofs.Common.{append_assoc, append-nil}
@@ -14,9 +14,11 @@ use Rattle.class_desc.specs.declared.class.FieldDesc.{FieldDesc}
 use Rattle.class_desc.specs.declared.class.MethodDesc.{MethodDesc}
 use Rattle.class_desc.specs.declared.place.Place.TheVariants as place
 use Rattle.class_desc.specs.Pool.{Entry, entry_bytes, numbered}
-use Rattle.class_desc.specs.ClassFile.{magic, NamesClassOf, FieldSpells, MethodSpells, field_key}
+use Rattle.class_desc.specs.ClassFile.{magic, FieldSpells, MethodSpells, field_key}
+use Rattle.class_desc.specs.Items.{NamesClassOf, Numbered}
 use Rattle.class_desc.specs.ClassFile.{method_key}
-use Rattle.class_desc.specs.ClassFile.{AttributesSpell, Parts, SpellsOver, ClassSpells}
+use Rattle.class_desc.specs.Attributes.{AttributesSpell}
+use Rattle.class_desc.specs.ClassFile.{Parts, SpellsOver, ClassSpells}
 use Rattle.pool_reader.specs.declared.fault.ClassKind.TheVariants.{F10}
 use Rattle.pool_reader.specs.declared.fault.ClassFault.{ClassFault}
 use Rattle.pool_reader.specs.declared.fault.ReadErr.{ReadErr}
@@ -26,15 +28,17 @@ use Rattle.pool_reader.proofs.Laws.{IsBytes, bind_ok, ok_is, Reads, reads_as, re
 use Rattle.pool_reader.proofs.Laws.{regrouped_step}
 use Rattle.pool_reader.proofs.Laws.{Then, joined, reads_then, reads_then_of, Made, reads_made}
 use Rattle.pool_reader.proofs.Rows.{PoolSpells, reads_pool}
-use Rattle.class_reader.specs.Reading.{version_at, class_flags_at, class_at, super_at}
+use Rattle.class_reader.specs.Reading.{class_flags_at, super_at}
 use Rattle.class_reader.specs.Reading.{interfaces_at}
-use Rattle.class_reader.specs.Reading.{fields_at, methods_at, attributes_at, head_at}
+use Rattle.class_reader.specs.Reading.{fields_at, methods_at, head_at}
 use Rattle.class_reader.specs.Reading.{class_over_at, file_at, class_of}
-use Rattle.class_reader.proofs.Items.{Numbered, reads_class}
+use Rattle.attribute_reader.specs.Attributes.{attributes_at}
+use Rattle.attribute_reader.specs.Items.{class_at}
+use Rattle.attribute_reader.proofs.AttributeLaws.{reads_of_class}
+use Rattle.attribute_reader.proofs.ItemLaws.{reads_class}
 use Rattle.class_reader.proofs.HeadLaws.{VersionSpells, reads_version, FlagsSpell, reads_flags}
 use Rattle.class_reader.proofs.HeadLaws.{SuperSpells}
 use Rattle.class_reader.proofs.HeadLaws.{reads_super, InterfacesSpell, reads_interfaces}
-use Rattle.class_reader.proofs.Attributes.{reads_attributes}
 use Rattle.class_reader.proofs.MemberLaws.{DistinctSpell, reads_fields, reads_methods}
 
 abbrev pub described : ℕ × ℕ → ℕ → List ℕ → Option (List ℕ) → List (List ℕ) → List FieldDesc
@@ -61,7 +65,7 @@ module _ (version : ℕ × ℕ) (pool : List Entry) where
   abbrev FromMethods : Head → List FieldDesc → ClassDesc → List ℕ → Type 0
   FromMethods h fields =
       Then (DistinctSpell (MethodSpells pool) method_key) (λ methods.
-      Made (λ attrs. of_head h fields methods attrs) (AttributesSpell pool place.Class))
+      Made (λ attrs. of_head h fields methods attrs) (AttributesSpell pool place.Class []))
 
   abbrev FromInterfaces : ℕ → List ℕ → Option (List ℕ) → ClassDesc → List ℕ → Type 0
   FromInterfaces flags name super =
@@ -78,18 +82,18 @@ module _ (version : ℕ × ℕ) (pool : List Entry) where
   abbrev methods_on : Head → List FieldDesc → Position → Read ClassDesc
   methods_on h fields p =
       methods_at (rows_of pool) p >>= λ methods.
-      attributes_at (rows_of pool) place.Class methods.1 >>= λ attrs.
+      attributes_at (rows_of pool) place.Class [] methods.1 >>= λ attrs.
       Ok (of_head h fields methods.0 attrs.0, attrs.1)
 
   reads_from_methods : (h : Head) (fields : List FieldDesc)
       → Reads (methods_on h fields) (FromMethods h fields)
   reads_from_methods h fields =
       reads_then
-      (λ begun methods rest. attributes_at (rows_of pool) place.Class rest >>= λ attrs.
+      (λ begun methods rest. attributes_at (rows_of pool) place.Class [] rest >>= λ attrs.
       Ok (of_head h fields methods attrs.0, attrs.1))
       (reads_methods pool)
       (λ begun methods.
-      reads_made (λ attrs. of_head h fields methods attrs) (reads_attributes pool place.Class))
+      reads_made (λ attrs. of_head h fields methods attrs) (reads_of_class pool []))
 
   abbrev interfaces_on : ℕ → List ℕ → Option (List ℕ) → Position → Read ClassDesc
   interfaces_on flags name super p =

@@ -9,21 +9,24 @@ use Rattle.std.proofs.lemmas.Bool.{eqb-true, eq-eqb, ltb-true, ltb-false, le-ltb
 use Rattle.std.proofs.lemmas.List.Concat.{flat_map-cons}
 use Rattle.java_names.specs.Names.{is_text}
 use Rattle.class_desc.specs.Pool.{Entry, ClassRef, entry_of}
-use Rattle.class_desc.specs.ClassFile.{magic, object_name, NamesClassOf, NamesSuper, NamesClasses}
-use Rattle.class_desc.specs.ClassFile.{EachSpells, CountedSpells}
+use Rattle.class_desc.specs.ClassFile.{magic, object_name, NamesSuper, NamesClasses}
+use Rattle.class_desc.specs.Items.{NamesClassOf, Numbered}
+use Rattle.class_desc.specs.Items.{EachSpells, CountedSpells}
 use Rattle.pool_reader.specs.declared.fault.ClassKind.TheVariants.{F2, F3, F11}
 use Rattle.pool_reader.specs.Reading.{◌>>=◌, offset, fault_at, told, number_at}
 use Rattle.pool_reader.specs.Pooled.{rows_of, class_named}
 use Rattle.pool_reader.proofs.Laws.{Reads, reads_as, Given, reads_given, Then, joined, alone}
 use Rattle.pool_reader.proofs.Laws.{reads_then}
 use Rattle.pool_reader.proofs.Laws.{Checked, reads_checked, Either, reads_if, Never, reads_never}
-use Rattle.pool_reader.proofs.Numbers.{NumberSpells, reads_u16, reads_u32, reads_counted}
-use Rattle.class_reader.specs.declared.forms.Form.TheVariants as form
-use Rattle.class_reader.specs.Forms.{form_fault}
-use Rattle.class_reader.specs.Reading.{version_at, class_checked, class_flags_at, super_at}
+use Rattle.pool_reader.proofs.Numbers.{NumberSpells, reads_u16, reads_u32}
+use Rattle.attribute_reader.specs.declared.forms.Form.TheVariants as form
+use Rattle.attribute_reader.specs.Forms.{form_fault}
+use Rattle.attribute_reader.specs.Items.{class_checked}
+use Rattle.class_reader.specs.Reading.{version_at, class_flags_at, super_at}
 use Rattle.class_reader.specs.Reading.{interfaces_at}
-use Rattle.class_reader.proofs.Items.{Passes, passes, is_checked, to_class, from_class, Numbered}
-use Rattle.class_reader.proofs.Items.{reads_class}
+use Rattle.attribute_reader.proofs.ItemLaws.{Passes, passes, is_checked, to_class, from_class}
+use Rattle.attribute_reader.proofs.ItemLaws.{reads_class}
+use Rattle.attribute_reader.proofs.ListLaws.{reads_counted_at}
 
 -- ---- the version
 
@@ -408,5 +411,5 @@ module _ (pool : List Entry) where
   pub reads_interfaces : Reads (interfaces_at (rows_of pool)) (InterfacesSpell pool)
   unfolding interfaces_at
   reads_interfaces =
-      reads_as (InterfacesSpell pool) (reads_counted (reads_class pool)) to_interfaces
+      reads_as (InterfacesSpell pool) (reads_counted_at (reads_class pool)) to_interfaces
       from_interfaces

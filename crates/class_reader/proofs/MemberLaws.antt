@@ -1,42 +1,52 @@
 -- Fields and methods, of which no two have one name and descriptor.
-use Rattle.std.proofs.Common.{◌≡◌, ℕ, zero, suc, ◌^◌, ◌<◌, ◌||◌, ◌&&◌, Bool, true, false}
+use Rattle.std.proofs.Common.{◌≡◌, ℕ, zero, suc, ◌^◌, ◌<◌, ◌&&◌, Bool, true, false}
 use Rattle.std.proofs.Common.{true≢false}
-use Rattle.std.proofs.Common.{cond, List, [], ◌∷◌, ◌++◌, length, map, Option, Ok, Err, refl, sym}
+use Rattle.std.proofs.Common.{cond, List, [], ◌∷◌, ◌++◌, length, map, Ok, Err, refl, sym}
 use Rattle.std.proofs.Common.{ap}
 use Rattle.std.proofs.Common.{subst, ◌∙◌, append_assoc, append-nil, arith}
-use Rattle.std.specs.List.{AllByRecursion, IsDistinct, list_any}
+use Rattle.std.specs.List.{IsDistinct, list_any}
 use Rattle.std.specs.Int.{w16, to_be_bytes}
-use Rattle.std.specs.Cmp.Lexicographic.{same_text}
-use Rattle.std.proofs.lemmas.List.Folds.{list_any-append}
-use Rattle.class_desc.specs.declared.attribute.Attr.{Attr}
 use Rattle.class_desc.specs.declared.class.FieldDesc.{FieldDesc}
 use Rattle.class_desc.specs.declared.class.MethodDesc.{MethodDesc}
 use Rattle.java_names.specs.Names.{is_text}
 use Rattle.class_desc.specs.Pool.{Entry}
-use Rattle.class_desc.specs.ClassFile.{IsFieldName, IsMethodName, IsFieldDescriptor}
-use Rattle.class_desc.specs.ClassFile.{IsMethodDescriptor}
-use Rattle.class_desc.specs.ClassFile.{NamesTextOf, AttributesSpell, MemberSpells, FieldSpells}
+use Rattle.class_desc.specs.Forms.{IsFieldName, IsMethodName, IsFieldDescriptor}
+use Rattle.class_desc.specs.Forms.{IsMethodDescriptor}
+use Rattle.class_desc.specs.Items.{NamesTextOf, Numbered}
+use Rattle.class_desc.specs.Attributes.{AttributesSpell}
+use Rattle.class_desc.specs.ClassFile.{MemberSpells, FieldSpells}
 use Rattle.class_desc.specs.ClassFile.{MethodSpells}
-use Rattle.class_desc.specs.ClassFile.{EachSpells, CountedSpells, Key, is_key, field_key}
+use Rattle.class_desc.specs.Items.{EachSpells, CountedSpells}
+use Rattle.class_desc.specs.ClassFile.{Key, is_key, field_key}
 use Rattle.class_desc.specs.ClassFile.{method_key}
 use Rattle.pool_reader.specs.declared.fault.ClassKind.TheVariants.{F9}
 use Rattle.pool_reader.specs.Reading.{◌>>=◌, Position, offset, Read, fault_at}
 use Rattle.pool_reader.specs.Pooled.{rows_of}
 use Rattle.pool_reader.proofs.Laws.{Reads, reads_as, Given, reads_given, Then, joined, reads_then}
-use Rattle.pool_reader.proofs.Laws.{Checked, reads_checked, Made, reads_made, same_after}
+use Rattle.pool_reader.proofs.Laws.{reads_checked, Made, reads_made, same_after}
 use Rattle.pool_reader.proofs.Numbers.{NumberSpells, reads_u16}
 use Rattle.class_reader.specs.declared.member.Member.{Member}
 use Rattle.class_reader.specs.declared.member.MemberKind.{MemberKind}
 use Rattle.class_reader.specs.declared.member.MemberKind.TheVariants as kind
-use Rattle.class_reader.specs.Forms.{form_fault}
-use Rattle.class_reader.specs.Reading.{text_at, attributes_at, place_of, name_form}
-use Rattle.class_reader.specs.Reading.{descriptor_form, unseen}
+use Rattle.class_reader.specs.Reading.{place_of, name_form, descriptor_form, unseen}
 use Rattle.class_reader.specs.Reading.{signed_at, member_at, members_at, as_field, as_method}
 use Rattle.class_reader.specs.Reading.{fields_at, methods_at}
-use Rattle.class_reader.proofs.FormLaws.{Tells, field_name_tells, method_name_tells}
-use Rattle.class_reader.proofs.FormLaws.{field_descriptor_tells, method_descriptor_tells}
-use Rattle.class_reader.proofs.Items.{Numbered, reads_text}
-use Rattle.class_reader.proofs.Attributes.{reads_attributes}
+use Rattle.attribute_reader.specs.Attributes.{attributes_at}
+use Rattle.attribute_reader.specs.Forms.{form_fault}
+use Rattle.attribute_reader.specs.Items.{text_at}
+use Rattle.attribute_reader.proofs.AttributeLaws.{reads_of_field, reads_of_method}
+use Rattle.attribute_reader.proofs.Distinct as distinct
+use Rattle.attribute_reader.proofs.Distinct.{distinct_new, new_distinct, flipped}
+use Rattle.attribute_reader.proofs.FormLaws.{Tells, field_name_tells, method_name_tells}
+use Rattle.attribute_reader.proofs.FormLaws.{field_descriptor_tells, method_descriptor_tells}
+use Rattle.attribute_reader.proofs.ItemLaws.{reads_text}
+
+-- the attributes of a field or a method
+reads_attributes : (pool : List Entry) (kind : MemberKind) (descriptor : List ℕ)
+    → Reads (attributes_at (rows_of pool) (place_of kind) descriptor)
+    (AttributesSpell pool (place_of kind) descriptor)
+reads_attributes pool kind.Field descriptor = reads_of_field pool descriptor
+reads_attributes pool kind.Method descriptor = reads_of_method pool descriptor
 
 -- ---- a member that is like none before it
 
@@ -172,7 +182,7 @@ module _ (pool : List Entry) (kind : MemberKind) (IsName : List ℕ → Type 0)
         attrs =
             attrs;
       })
-      (AttributesSpell pool (place_of kind)))
+      (AttributesSpell pool (place_of kind) front.2))
 
   to_member : (seen : List Key) (m : Member) (text : List ℕ)
       → MemberParts seen m text
@@ -274,7 +284,7 @@ module _ (pool : List Entry) (kind : MemberKind) (IsName : List ℕ → Type 0)
     reads_member seen =
         reads_as (NewMember SpellsMember seen)
         (reads_then
-        (λ begun front rest. attributes_at (rows_of pool) (place_of kind) rest >>= λ attrs.
+        (λ begun front rest. attributes_at (rows_of pool) (place_of kind) front.2 rest >>= λ attrs.
         Ok (
           record { flags = front.0; name = front.1; descriptor = front.2; attrs = attrs.0 },
           attrs.1,
@@ -287,22 +297,11 @@ module _ (pool : List Entry) (kind : MemberKind) (IsName : List ℕ → Type 0)
           descriptor = front.2;
           attrs = attrs;
         })
-        (reads_attributes pool (place_of kind))))
+        (reads_attributes pool kind front.2)))
         (to_member seen)
         (from_member seen)
 
 -- ---- keys
-
--- each key is like none before it, nor like one that was seen
-abbrev pub AreNew : List Key → List Key → Type 0
-AreNew seen [] = Unit {0}
-AreNew seen (key ∷ keys) = IsNew seen key × AreNew (seen ++ key ∷ []) keys
-
-flipped : (a b : List ℕ) → is_text a b ≡ true → is_text b a ≡ true
-flipped a b e =
-    let same : a ≡ b = same_text a b (sym e) in
-    let e' : is_text a a ≡ true = subst (λ t. is_text a t ≡ true) (sym same) e in
-    subst (λ t. is_text t a ≡ true) same e'
 
 both_true : (p q : Bool) → (p && q) ≡ true → (p ≡ true) × (q ≡ true)
 both_true true true e = (refl, refl)
@@ -316,81 +315,17 @@ same_key a b e =
     let y = flipped a.1 b.1 p.1 in
     rw (x, y) refl
 
-other_key : (a b : Key) → is_key a b ≡ false → is_key b a ≡ false
+-- keys that differ do so both ways
+pub other_key : (a b : Key) → is_key a b ≡ false → is_key b a ≡ false
 other_key a b e = by (is_key b a) refl
   where
     by : (t : Bool) → is_key b a ≡ t → is_key b a ≡ false
     by true is = absurd (true≢false (sym (same_key b a is) ∙ e))
     by false is = is
 
-neither : (p q : Bool) → (p || (q || false)) ≡ false → (p ≡ false) × (q ≡ false)
-neither true q e = absurd (true≢false e)
-neither false true e = absurd (true≢false e)
-neither false false e = (refl, refl)
-
--- all of them were unseen, and they differ
-record AreApart (seen keys : List Key) : Type 0 where
-  unseen_each : AllByRecursion (IsNew seen) keys
-  distinct : IsDistinct is_key keys
-
-split_last : (seen : List Key) (key other : Key) → IsNew (seen ++ key ∷ []) other
-    → IsNew seen other × (is_key other key ≡ false)
-split_last seen key other new =
-    neither (list_any (is_key other) seen) (is_key other key)
-    (sym (list_any-append (is_key other) seen (key ∷ [])) ∙ new)
-
-join_last : (seen : List Key) (key other : Key) → IsNew seen other → is_key other key ≡ false
-    → IsNew (seen ++ key ∷ []) other
-join_last seen key other new differs = list_any-append (is_key other) seen (key ∷ [])
-    ∙ rw (new, differs) refl
-
-all_split : (seen : List Key) (key : Key) (keys : List Key)
-    → AllByRecursion (IsNew (seen ++ key ∷ [])) keys → AllByRecursion (IsNew seen) keys
-    × AllByRecursion (λ k. is_key key k ≡ false) keys
-all_split seen key [] all = (tt, tt)
-all_split seen key (k ∷ ks) all =
-    let one = split_last seen key k all.0 in
-    let others = all_split seen key ks all.1 in
-    ((one.0, others.0), (other_key k key one.1, others.1))
-
-all_joined : (seen : List Key) (key : Key) (keys : List Key) → AllByRecursion (IsNew seen) keys
-    → AllByRecursion (λ k. is_key key k ≡ false) keys
-    → AllByRecursion (IsNew (seen ++ key ∷ [])) keys
-all_joined seen key [] new differ = tt
-all_joined seen key (k ∷ ks) new differ =
-    (join_last seen key k new.0 (other_key key k differ.0), all_joined seen key ks new.1 differ.1)
-
-apart : (seen keys : List Key) → AreNew seen keys → AreApart seen keys
-unfolding IsDistinct
-apart seen [] new = record { unseen_each = tt; distinct = tt }
-apart seen (key ∷ keys) new =
-    let others = apart (seen ++ key ∷ []) keys new.1 in
-    let split = all_split seen key keys others.unseen_each in
-    record { unseen_each = (new.0, split.0); distinct = (split.1, others.distinct) }
-
-from_apart : (seen keys : List Key) → AreApart seen keys → AreNew seen keys
-unfolding IsDistinct
-from_apart seen [] a = tt
-from_apart seen (key ∷ keys) a = (
-  a.unseen_each.0,
-  from_apart (seen
-      ++ key ∷ []) keys (record {
-        unseen_each =
-            all_joined seen key keys a.unseen_each.1 a.distinct.0;
-        distinct = a.distinct.1;
-      }),
-)
-
-none_seen : (keys : List Key) → AllByRecursion (IsNew []) keys
-none_seen [] = tt
-none_seen (key ∷ keys) = (refl, none_seen keys)
-
-pub distinct_new : (keys : List Key) → AreNew [] keys → IsDistinct is_key keys
-distinct_new keys new = (apart [] keys new).distinct
-
-pub new_distinct : (keys : List Key) → IsDistinct is_key keys → AreNew [] keys
-new_distinct keys distinct = from_apart [] keys
-    (record { unseen_each = none_seen keys; distinct = distinct })
+-- each key is like none before it, nor like one that was seen
+abbrev pub AreNew : List Key → List Key → Type 0
+AreNew = distinct.AreNew is_key other_key
 
 -- ---- as many members as a count says
 
@@ -499,7 +434,7 @@ module _ {A : Type 0} (make : Member → A) (back : A → Member) (Spells : Memb
       whole = joined s (s.first.1 ∙ ap (to_be_bytes w16) (sym s.second.length_is)) refl;
       each = s.second.each;
     };
-    distinct = distinct_new _ s.second.new;
+    distinct = distinct_new is_key other_key _ s.second.new;
   }
 
   from_distinct : (items : List A) (text : List ℕ) → Distinct items text
@@ -510,7 +445,11 @@ module _ {A : Type 0} (make : Member → A) (back : A → Member) (Spells : Memb
     rest = s.spells.rest;
     whole = s.spells.whole;
     first = (s.spells.count, refl);
-    second = record { length_is = refl; each = s.spells.each; new = new_distinct _ s.distinct };
+    second = record {
+      length_is = refl;
+      each = s.spells.each;
+      new = new_distinct is_key other_key _ s.distinct;
+    };
   }
 
 abbrev field_back : FieldDesc → Member

@@ -1,11 +1,10 @@
 -- Reading a class file from front to back (JVMS 4.1), item by item, up to the first check that
 -- fails.
-use Rattle.std.specs.Prelude.{◌≡◌, ℕ, zero, suc, ◌-◌, ◌<◌, ◌^◌, ◌||◌, ◌&&◌, Bool, List, [], ◌∷◌}
+use Rattle.std.specs.Prelude.{ℕ, zero, suc, ◌^◌, ◌||◌, List, [], ◌∷◌}
 use Rattle.std.specs.Prelude.{◌++◌, length}
 use Rattle.std.specs.Prelude.{Option, Some, None, Result, Ok, Err, nat_lt, ◌==◌, if◌then◌else◌}
 use Rattle.std.specs.Int.{w16, w32}
 use Rattle.std.specs.List.{list_any}
-use Rattle.class_desc.specs.declared.attribute.Attr.{Attr}
 use Rattle.class_desc.specs.declared.class.ClassDesc.{ClassDesc}
 use Rattle.class_desc.specs.declared.class.FieldDesc.{FieldDesc}
 use Rattle.class_desc.specs.declared.class.MethodDesc.{MethodDesc}
@@ -13,19 +12,20 @@ use Rattle.class_desc.specs.declared.place.Place.{Place}
 use Rattle.class_desc.specs.declared.place.Place.TheVariants as place
 use Rattle.java_names.specs.Names.{is_text}
 use Rattle.class_desc.specs.ClassFile.{object_name, magic, Key, is_key}
-use Rattle.pool_reader.specs.declared.fault.ClassKind.{ClassKind}
 use Rattle.pool_reader.specs.declared.fault.ClassKind.TheVariants.{F2, F3, F9, F10, F11}
 use Rattle.pool_reader.specs.declared.fault.ClassFault.{ClassFault}
 use Rattle.pool_reader.specs.Reading.{◌>>=◌, Position, offset, start, Read, fault_at, told}
-use Rattle.pool_reader.specs.Reading.{number_at, piece_at, times, pass_all}
-use Rattle.pool_reader.specs.Pooled.{Row, text_named, class_named, pool_at}
+use Rattle.pool_reader.specs.Reading.{number_at}
+use Rattle.pool_reader.specs.Pooled.{Row, pool_at}
+use Rattle.attribute_reader.specs.declared.forms.Form.{Form}
+use Rattle.attribute_reader.specs.declared.forms.Form.TheVariants as form
+use Rattle.attribute_reader.specs.Attributes.{attributes_at}
+use Rattle.attribute_reader.specs.Forms.{form_fault}
+use Rattle.attribute_reader.specs.Items.{text_at, class_checked, class_at, counted_at}
 use Rattle.class_reader.specs.declared.member.Member.{Member}
 use Rattle.class_reader.specs.declared.member.MemberKind.{MemberKind}
 use Rattle.class_reader.specs.declared.member.MemberKind.TheVariants as kind
 use Rattle.class_reader.specs.declared.head.Head.{Head}
-use Rattle.class_reader.specs.declared.forms.Form.{Form}
-use Rattle.class_reader.specs.declared.forms.Form.TheVariants as form
-use Rattle.class_reader.specs.Forms.{form_fault}
 
 -- the magic and the two parts of the version: 45 to 61 are JDK 1.0.2 to Java SE 17 (JVMS table
 -- 4.1-A)
@@ -36,34 +36,6 @@ version_at p = do
   major ← number_at w16 minor.1
   if nat_lt major.0 45 || nat_lt 61 major.0 then Err (told minor.1 F3) else Ok
       ((minor.0, major.0), major.1)
-
--- ---- items that name a text
-
-abbrev pub passed : List ℕ → ℕ → Option ClassKind → Result (List ℕ) ClassFault
-passed text at None = Ok text
-passed text at (Some kind) = Err (fault_at at kind)
-
--- The text that an item at this offset names, where nothing is told of it: first what is wrong
--- with the entries, then with the text's form.
-abbrev pub checked : (List ℕ → Option ClassKind) → ℕ → Result (List ℕ) ClassKind
-    → Result (List ℕ) ClassFault
-checked fault at (Err kind) = Err (fault_at at kind)
-checked fault at (Ok text) = passed text at (fault text)
-
-unfoldable pub text_at : List Row → (List ℕ → Option ClassKind) → Position → Read (List ℕ)
-text_at rows fault p = do
-  n ← number_at w16 p
-  text ← checked fault (offset p) (text_named rows n.0)
-  Ok (text, n.1)
-
-abbrev pub class_checked : List Row → ℕ → ℕ → Result (List ℕ) ClassFault
-class_checked rows at n = checked (form_fault form.ClassName) at (class_named rows n)
-
-unfoldable pub class_at : List Row → Position → Read (List ℕ)
-class_at rows p = do
-  n ← number_at w16 p
-  name ← class_checked rows (offset p) n.0
-  Ok (name, n.1)
 
 -- ---- the head of a class
 
@@ -83,9 +55,7 @@ super_at rows name p = do
       if is_text name object_name then Err (told p F11) else Ok (Some super, n.1))
 
 unfoldable pub interfaces_at : List Row → Position → Read (List (List ℕ))
-interfaces_at rows p = do
-  count ← number_at w16 p
-  times (class_at rows) count.0 count.1
+interfaces_at rows p = counted_at (class_at rows) p
 
 -- what stands between the pool and the fields
 unfoldable pub head_at : List Row → Position → Read Head
@@ -98,22 +68,6 @@ head_at rows p = do
     record { flags = flags.0; name = name.0; super_name = super.0; interfaces = interfaces.0 },
     interfaces.1,
   )
-
--- ---- attributes
-
--- an attribute that is passed over: its body isn't read
-unfoldable pub attribute_at : List Row → Place → Position → Read (Unit {0})
-attribute_at rows place p = do
-  name ← text_at rows (form_fault (form.PassedAttribute place)) p
-  count ← number_at w32 name.1
-  body ← piece_at count.0 count.1
-  Ok (tt, body.1)
-
-unfoldable pub attributes_at : List Row → Place → Position → Read (List Attr)
-attributes_at rows place p = do
-  count ← number_at w16 p
-  passed ← pass_all (attribute_at rows place) count.0 count.1
-  Ok ([], passed.1)
 
 -- ---- fields and methods
 
@@ -147,7 +101,7 @@ signed_at rows kind seen p = do
 unfoldable pub member_at : List Row → MemberKind → List Key → Position → Read Member
 member_at rows kind seen p = do
   front ← signed_at rows kind seen p
-  attrs ← attributes_at rows (place_of kind) front.1
+  attrs ← attributes_at rows (place_of kind) front.0.2 front.1
   Ok (
     record { flags = front.0.0; name = front.0.1; descriptor = front.0.2; attrs = attrs.0 },
     attrs.1,
@@ -186,7 +140,7 @@ class_over_at version rows p = do
   head ← head_at rows p
   fields ← fields_at rows head.1
   methods ← methods_at rows fields.1
-  attrs ← attributes_at rows place.Class methods.1
+  attrs ← attributes_at rows place.Class [] methods.1
   Ok (
     record {
       minor = version.0;

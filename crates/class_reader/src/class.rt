@@ -3,9 +3,9 @@ ghost use Rattle.class_desc.specs.ClassFile.{ClassSpells};
 ghost use Rattle.pool_reader.specs.Reading.{Gives, Answers, AreBytes};
 ghost use Rattle.class_reader.specs.Reading.{version_at, class_over_at, file_at, class_of};
 
-use crate::attribute::attributes;
 use crate::head::class_head;
 use crate::member::{fields, methods};
+use attribute_reader::attributes;
 use class_desc::{ClassDesc, Place};
 use pool_reader::{ClassKind, Pool, ReadErr, Reader};
 use std::alloc::Global;
@@ -45,7 +45,7 @@ fn class_over(
     let head = class_head(reader, alloc, pool)?;
     let fields = fields(reader, alloc, pool)?;
     let methods = methods(reader, alloc, pool)?;
-    let attrs = attributes(reader, alloc, pool, Place::Class)?;
+    let attrs = attributes(reader, alloc, pool, Place::Class, b"")?;
     Ok(ClassDesc {
         minor,
         major,
@@ -87,8 +87,8 @@ fn class_from(alloc: Global, bytes: &[u8]) -> Result<ClassDesc, ReadErr>
 /// Reads a class file (JVMS 4.1) of JDK 1.0.2 to Java SE 17.
 ///
 /// A fault comes just where the bytes spell no description, and is the first check that fails,
-/// from front to back, at the offset of its item's first byte. No description with an attribute
-/// that is kept is spelled yet: such an attribute is `NotYet` at its name.
+/// from front to back, at the offset of its item's first byte: where the body of an attribute is
+/// shorter or longer than its items, at the offset of its length.
 pub fn read_class(alloc: Global, bytes: &[u8]) -> Result<ClassDesc, ReadErr>
     requires { length bytes.now ≤ 2 ^ 24 }
     // What is read is spelled.

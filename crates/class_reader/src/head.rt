@@ -2,20 +2,17 @@
 ghost use Rattle.std.specs.Prelude.{◌≡◌};
 ghost use Rattle.java_names.specs.Names.{is_text};
 ghost use Rattle.class_desc.specs.ClassFile.{object_name};
-ghost use Rattle.pool_reader.specs.Reading.{Gives, times};
-ghost use Rattle.class_reader.specs.Reading.{class_flags_at, class_at, super_at, interfaces_at};
-ghost use Rattle.class_reader.specs.Reading.{head_at};
+ghost use Rattle.pool_reader.specs.Reading.{Gives};
+ghost use Rattle.attribute_reader.specs.Items.{class_at};
+ghost use Rattle.class_reader.specs.Reading.{class_flags_at, super_at, interfaces_at, head_at};
 
-use crate::forms::{class_name, class_of_number};
+use attribute_reader::{class_name, class_names, class_of_number};
 use hdr_core::{List, Text};
 use pool_reader::{ClassKind, Pool, ReadErr, Reader};
 use std::alloc::Global;
 
 /// The flag of a module (JVMS 4.1).
 const MODULE: u16 = 0x8000;
-
-/// The bytes of an interface's number.
-const INTERFACE: usize = 2;
 
 /// What stands between the pool and the fields.
 #[derive(Drop)]
@@ -69,24 +66,6 @@ fn super_name(
     Ok(Some(Text::of(alloc, super_name)?))
 }
 
-fn class_names(
-    reader: &mut Reader<'_>,
-    alloc: Global,
-    pool: &Pool<'_>,
-    count: u16,
-) -> Result<List<Text>, ReadErr>
-    ensures { Gives (λ names. names) result reader.new
-        (times (class_at pool.now) count reader.old) }
-{
-    let most = reader.len() / INTERFACE;
-    let mut names = Vec::with_capacity(alloc, usize::from(count).min(most))?;
-    for _ in 0..count {
-        let name = class_name(reader, pool)?;
-        names.push(Text::of(alloc, name)?)?;
-    }
-    Ok(List::of(names))
-}
-
 /// The superinterfaces, their count first.
 #[tactic(auto, unfolding(crate::specs::Reading::interfaces_at))]
 fn interfaces(
@@ -96,8 +75,7 @@ fn interfaces(
 ) -> Result<List<Text>, ReadErr>
     ensures { Gives (λ names. names) result reader.new (interfaces_at pool.now reader.old) }
 {
-    let count = reader.u16()?;
-    class_names(reader, alloc, pool, count)
+    class_names(reader, alloc, pool)
 }
 
 /// The flags, the name, the superclass and the superinterfaces.

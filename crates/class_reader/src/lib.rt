@@ -4,9 +4,7 @@
 //! one item.
 #![tactic(auto)]
 
-mod attribute;
 mod class;
-mod forms;
 mod head;
 mod member;
 

@@ -4,8 +4,7 @@ ghost use Rattle.class_reader.specs.Reading.{unseen, place_of, name_form, descri
 ghost use Rattle.class_reader.specs.Reading.{signed_at, member_at, members_at, as_field};
 ghost use Rattle.class_reader.specs.Reading.{as_method, fields_at, methods_at};
 
-use crate::attribute::attributes;
-use crate::forms::Form;
+use attribute_reader::{Form, attributes};
 use class_desc::{Attr, FieldDesc, MethodDesc, Place};
 use hdr_core::{List, Text};
 use indexmap::IndexSet;
@@ -178,7 +177,7 @@ fn next_member<'a>(
     ensures seen { IfOk result (λ m. seen.new ≡ seen.old ++ (m.name, m.descriptor) ∷ []) }
 {
     let (flags, name, descriptor) = signed(reader, pool, kind, seen)?;
-    let attrs = attributes(reader, alloc, pool, kind.place())?;
+    let attrs = attributes(reader, alloc, pool, kind.place(), descriptor)?;
     Ok(Member {
         flags,
         name: Text::of(alloc, name)?,

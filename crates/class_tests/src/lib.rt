@@ -10,8 +10,6 @@ mod descriptions;
 #[cfg(test)]
 mod faults;
 #[cfg(test)]
-mod kept;
-#[cfg(test)]
 mod limits;
 #[cfg(test)]
 mod lists;

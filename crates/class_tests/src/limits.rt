@@ -127,7 +127,7 @@ fn descriptor_of<R: Abort + AllocGlobal>(
 }
 
 /// An entry of the pool.
-pub fn add_text<R: Abort>(rt: &R, file: &mut Vec<u8>, text: &[u8]) {
+fn add_text<R: Abort>(rt: &R, file: &mut Vec<u8>, text: &[u8]) {
     add(rt, file, b"\x01");
     add(rt, file, &((text.len() % 65_536) as u16).to_be_bytes());
     add(rt, file, text);

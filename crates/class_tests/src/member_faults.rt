@@ -565,26 +565,26 @@ const ATTRIBUTES: [Case; 24] = [
         b"\0!\0\x01\0\x03\0\0\0\0\0\0\0\x01\0\x09\0\0\0\x02\xff\xff\0",
         Some((ClassKind::F10, 89)),
     ),
-    // Kept, and not read yet.
+    // Kept, and wrong.
     (
         5,
         b"\x01\0\x01f\x01\0\x01I\x01\0\x01m\x01\0\x03()V\x01\0\x09Signature",
         b"\0!\0\x01\0\x03\0\0\0\0\0\0\0\x01\0\x09\0\0\0\x02\0\x05",
-        Some((ClassKind::NotYet, 83)),
+        Some((ClassKind::F7, 89)),
     ),
     (
         5,
         b"\x01\0\x01f\x01\0\x01I\x01\0\x01m\x01\0\x03()V\x01\0\x0dConstantValue",
         b"\0!\0\x01\0\x03\0\0\0\x01\0\x01\0\x05\0\x06\0\x01\0\x09\0\0\0\x02\0\x05\
             \0\0\0\0",
-        Some((ClassKind::NotYet, 91)),
+        Some((ClassKind::F5, 97)),
     ),
     (
         5,
         b"\x01\0\x01f\x01\0\x01I\x01\0\x01m\x01\0\x03()V\x01\0\x0aExceptions",
         b"\0!\0\x01\0\x03\0\0\0\0\0\x01\0\x01\0\x07\0\x08\0\x01\0\x09\0\0\0\x02\0\
             \x05\0\0",
-        Some((ClassKind::NotYet, 90)),
+        Some((ClassKind::F8, 92)),
     ),
 ];
 

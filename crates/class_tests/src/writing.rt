@@ -1,5 +1,6 @@
 use crate::lists::{list, none, text, texts};
 use class_desc::{ClassDesc, FieldDesc, MethodDesc};
+use class_reader::read_class;
 use class_writer::{PoolErr, write_class};
 use hdr_core::List;
 use std::process::Abort;
@@ -177,4 +178,38 @@ fn fills_pools(rt: HostRuntime) {
     assert!(rt; file.get(8..10) == Some(b"\xff\xff".as_slice()));
     let refused = written_methods(&rt, 65_530).err();
     assert!(rt; refused == Some(PoolErr::PoolFull { needed: 65_535 }));
+}
+
+/// A class with a long, and one whose double is a NaN, as they are written.
+const CONSTANTS: [&[u8]; 2] = [
+    b"\xca\xfe\xba\xbe\0\0\0\x3d\0\x0c\
+        \x01\0\x01A\x07\0\x01\x01\0\x10java/lang/Object\x07\0\x03\x01\0\x01L\x01\0\x01J\
+        \x01\0\x0dConstantValue\x05\0\0\0\0\0\0\0\x05\x01\0\x01m\x01\0\x03()V\
+        \0\x21\0\x02\0\x04\0\0\
+        \0\x01\0\x19\0\x05\0\x06\0\x01\0\x07\0\0\0\x02\0\x08\
+        \0\x01\0\x01\0\x0a\0\x0b\0\0\0\0",
+    b"\xca\xfe\xba\xbe\0\0\0\x3d\0\x09\
+        \x01\0\x01A\x07\0\x01\x01\0\x10java/lang/Object\x07\0\x03\x01\0\x01D\
+        \x01\0\x0dConstantValue\x06\x7f\xf8\0\0\0\0\0\x01\
+        \0\x21\0\x02\0\x04\0\0\
+        \0\x01\0\x19\0\x05\0\x05\0\x01\0\x06\0\0\0\x02\0\x07\
+        \0\0\0\0",
+];
+
+/// The second with its entries in another order, and a float that nothing names.
+const WITH_FLOAT: &[u8] = b"\xca\xfe\xba\xbe\0\0\0\x3d\0\x0a\
+    \x07\0\x02\x01\0\x01A\x07\0\x04\x01\0\x10java/lang/Object\x04\x7f\xc0\0\x01\
+    \x01\0\x01D\x01\0\x0dConstantValue\x06\x7f\xf8\0\0\0\0\0\x01\
+    \0\x21\0\x01\0\x03\0\0\
+    \0\x01\0\x19\0\x06\0\x06\0\x01\0\x07\0\0\0\x02\0\x08\
+    \0\0\0\0";
+
+#[test]
+fn writes_what_was_read(rt: HostRuntime) {
+    let [long, double] = CONSTANTS;
+    for (file, want) in [(long, long), (double, double), (WITH_FLOAT, double)] {
+        let class = read_class(rt.alloc(), file).expect(&rt, "a class");
+        let written = write_class(rt.alloc(), &class).expect(&rt, "a file");
+        assert!(rt; written.as_slice() == want);
+    }
 }
