@@ -7,7 +7,8 @@ use Rattle.class_desc.specs.declared.attribute.ComponentDesc.{fold_out-Component
 use Rattle.class_desc.specs.declared.attribute.Attr.TheOpen.{Attr-F}
 use Rattle.class_desc.specs.Layout.{Item, attribute, attribute_layer, component_layer}
 use Rattle.class_desc.specs.Layout.{attribute_items, component_items, text_item, counted}
-use Rattle.class_desc.specs.Layout.{layer_name, layer_body, attribute_name}
+use Rattle.class_desc.specs.Places.{layer_name, attribute_name}
+use Rattle.class_desc.specs.Layout.{layer_body}
 use Rattle.class_writer.specs.Bodies.{body_items}
 use Rattle.class_writer.specs.Writing.{Outline, Puts, BeginsAttribute, EndsAttribute}
 use Rattle.class_writer.specs.declared.body.Body.{Body}
@@ -29,14 +30,7 @@ pub attribute_apart : (attr : Attr)
 unfolding attribute_name body_items
 attribute_apart attr = ap attribute_items (sym (roll-out-Attr attr)) ∙ rolled_apart (out-Attr attr)
 
--- the name and the body of an attribute of this kind
-
-pub name_is : (attr : Attr) (layer : Attr-F Attr ComponentDesc) → attr ≡ roll-Attr layer
-    → layer_name layer ≡ attribute_name attr
-unfolding attribute_name
-name_is attr layer is = sym (ap (λ attr. layer_name (out-Attr attr)) is
-    ∙ ap layer_name (out-roll-Attr layer))
-
+-- the body of an attribute of this kind
 pub body_is : (attr : Attr) (layer : Attr-F Attr ComponentDesc) {a b : Outline}
     → attr ≡ roll-Attr layer → Puts (layer_body component_items layer) a b
     → Puts (body_items attr) a b
@@ -53,7 +47,7 @@ attribute_put attr name mark a b c d named begun put ended =
     (puts_attribute (attribute_name attr) (body_items attr) mark a b c d
     (rw named at begun) put ended)
 
-component_parts : (c : ComponentDesc) → component_items c
+pub component_parts : (c : ComponentDesc) → component_items c
     ≡ text_item (out-ComponentDesc c).name ∷ text_item (out-ComponentDesc c).descriptor
     ∷ counted attribute_items (out-ComponentDesc c).attrs
 unfolding component_items attribute_items

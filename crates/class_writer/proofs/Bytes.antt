@@ -4,7 +4,9 @@ use Rattle.std.specs.List.{flat_map, AllByRecursion}
 use Rattle.std.specs.Int.{w16, w32, w64, to_be_bytes}
 use Rattle.class_desc.specs.declared.class.ClassDesc.{ClassDesc}
 use Rattle.class_desc.specs.ClassFile.{magic}
-use Rattle.class_desc.specs.Layout.{Integer, Float, Long, Double, Need, TextNeed, ClassNeed}
+use Rattle.class_desc.specs.declared.constant_kind.NumberKind.TheVariants.{Integer, Float, Long}
+use Rattle.class_desc.specs.declared.constant_kind.NumberKind.TheVariants.{Double}
+use Rattle.class_desc.specs.Layout.{Need, TextNeed, ClassNeed}
 use Rattle.class_desc.specs.Layout.{StringNeed, NumberNeed, is_need, number_in, need_bytes, Item}
 use Rattle.class_desc.specs.Layout.{Tag, Flags, ParameterCount, Count, BodyLength, EntryNumber}
 use Rattle.class_desc.specs.Layout.{NoEntry, item_bytes, class_items, needs, pool_of, head_bytes}

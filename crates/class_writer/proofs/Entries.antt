@@ -6,19 +6,15 @@ use Rattle.std.specs.List.{flat_map, list_any, AllByRecursion}
 use Rattle.std.proofs.lemmas.Bool.Decides.{nat_tests}
 use Rattle.std.proofs.lemmas.List.{length-append}
 use Rattle.std.proofs.lemmas.List.Sums.{sum_by-cons}
-use Rattle.class_desc.specs.Pool as file
+use Rattle.class_desc.specs.Constants.{number_entry}
 use Rattle.class_desc.specs.Pool.{Entry, Utf8, ClassRef, StringRef, EntryFits, entry_bytes, Slot}
 use Rattle.class_desc.specs.Pool.{Held, Second, is_wide, slots_of, numbered, held_in, entry_of}
-use Rattle.class_desc.specs.Layout.{NumberKind, Integer, Float, Long, Double, Need, TextNeed}
+use Rattle.class_desc.specs.declared.constant_kind.NumberKind.TheVariants.{Integer, Float, Long}
+use Rattle.class_desc.specs.declared.constant_kind.NumberKind.TheVariants.{Double}
+use Rattle.class_desc.specs.Layout.{Need, TextNeed}
 use Rattle.class_desc.specs.Layout.{ClassNeed, StringNeed, NumberNeed, is_need, width, number_in}
 use Rattle.class_desc.specs.Layout.{need_bytes, numbers_needed}
 use Rattle.class_writer.proofs.Needed.{IsIn, need_is}
-
-abbrev pub number_entry : NumberKind → ℕ → Entry
-number_entry Integer bits = file.Integer bits
-number_entry Float bits = file.Float bits
-number_entry Long bits = file.Long bits
-number_entry Double bits = file.Double bits
 
 -- the entry of a need, over a pool
 abbrev pub entry_in : List Need → Need → Entry

@@ -3,9 +3,15 @@ pub mod Bytes
 pub mod Entries
 pub mod Equivalences
 pub mod Firsts
+pub mod Held
 pub mod Inserting
+pub mod Laid
+pub mod LaidAttributes
+pub mod LaidValues
 pub mod Layers
+pub mod Named
 pub mod Needed
+pub mod Pooled
 pub mod Pools
 pub mod Putting
 pub mod Refusals
@@ -14,4 +20,5 @@ pub mod Sizes
 pub mod Spelled
 pub mod Valid
 pub mod ValueSteps
+pub mod Weights
 pub mod Writes

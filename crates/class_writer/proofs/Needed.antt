@@ -5,7 +5,10 @@ use Rattle.std.specs.Prelude.{filter}
 use Rattle.std.specs.List.{list_any, AllByRecursion}
 use Rattle.std.proofs.lemmas.Bool.Decides.{nat_tests}
 use Rattle.std.proofs.lemmas.List.Folds.{list_any-append}
-use Rattle.class_desc.specs.Layout.{NumberKind, Integer, Float, Long, Double, Need, TextNeed}
+use Rattle.class_desc.specs.declared.constant_kind.NumberKind.{NumberKind}
+use Rattle.class_desc.specs.declared.constant_kind.NumberKind.TheVariants.{Integer, Float, Long}
+use Rattle.class_desc.specs.declared.constant_kind.NumberKind.TheVariants.{Double}
+use Rattle.class_desc.specs.Layout.{Need, TextNeed}
 use Rattle.class_desc.specs.Layout.{ClassNeed, StringNeed, NumberNeed, is_need, number_tag, firsts}
 use lib.Pointwise.{bytes_decides}
 use Rattle.class_writer.proofs.Equivalences.{needs_equiv}
@@ -26,7 +29,7 @@ pub in_head : (need : Need) (needs : List Need) → IsIn need (need ∷ needs)
 in_head need needs = or_left (is_need need need) (list_any (is_need need) needs)
     (needs_equiv.refl need)
 
-in_tail : (need other : Need) (needs : List Need) → IsIn need needs → IsIn need (other ∷ needs)
+pub in_tail : (need other : Need) (needs : List Need) → IsIn need needs → IsIn need (other ∷ needs)
 in_tail need other needs = or_right (is_need need other) (list_any (is_need need) needs)
 
 pub in_left : (need : Need) (front rest : List Need) → IsIn need front → IsIn need (front ++ rest)
@@ -75,7 +78,7 @@ need_is _ _ h = absurd (let e : false ≡ true = h in cc)
 
 -- ---- of equal needs the first
 
-in_filter : (need : Need) (keeps : Need → Bool)
+pub in_filter : (need : Need) (keeps : Need → Bool)
     → ((y : Need) → is_need need y ≡ true → keeps y ≡ true) → (ys : List Need)
     → list_any (is_need need) (filter keeps ys) ≡ list_any (is_need need) ys
 in_filter need keeps h [] = refl

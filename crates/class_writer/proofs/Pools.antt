@@ -10,7 +10,9 @@ use Rattle.std.proofs.lemmas.List.Sums.{sum_by-cons}
 use Rattle.std.proofs.lemmas.Grind.{flat_map-append}
 use Rattle.indexmap.specs.IndexSet.{insert_all}
 use Rattle.class_desc.specs.declared.class.ClassDesc.{ClassDesc}
-use Rattle.class_desc.specs.Layout.{Integer, Float, Long, Double, Need, TextNeed, ClassNeed}
+use Rattle.class_desc.specs.declared.constant_kind.NumberKind.TheVariants.{Integer, Float, Long}
+use Rattle.class_desc.specs.declared.constant_kind.NumberKind.TheVariants.{Double}
+use Rattle.class_desc.specs.Layout.{Need, TextNeed, ClassNeed}
 use Rattle.class_desc.specs.Layout.{StringNeed, NumberNeed, is_need, width, number_in, need_bytes}
 use Rattle.class_desc.specs.Layout.{Item, EntryNumber, item_bytes, item_needs, class_items, needs}
 use Rattle.class_desc.specs.Layout.{firsts, pool_of, numbers_needed, head_bytes, pool_bytes}

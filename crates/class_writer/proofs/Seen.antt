@@ -6,6 +6,7 @@ use Rattle.std.specs.List.{list_any, position_or_len}
 use Rattle.std.specs.Int.{w16, to_be_bytes}
 use Rattle.std.proofs.lemmas.List.{map-append, map-set}
 use Rattle.indexmap.specs.IndexSet.{insert_key}
+use Rattle.class_desc.specs.declared.constant_kind.NumberKind.TheVariants as number
 use Rattle.class_desc.specs.Layout as layout
 use Rattle.class_desc.specs.Layout.{is_need, BodyLength, told, item_bytes, item_needs}
 use Rattle.class_writer.specs.declared.need.NumberKind.{NumberKind}
@@ -206,7 +207,7 @@ pub integer_takes : (k : NumberKind) (bits : ℕ) {a b : Draft} → k ≡ kind.I
     → Takes (layout_slot.Held (layout.NumberNeed (kind_seen k) bits) ∷ []) a b
     → Takes (layout_slot.need_slots (layout.NumberNeed (kind_seen k) bits)) a b
 integer_takes k bits {a} {b} is takes =
-    let narrow : Takes (layout_slot.Held (layout.NumberNeed layout.Integer bits) ∷ []) a b = subst
+    let narrow : Takes (layout_slot.Held (layout.NumberNeed number.Integer bits) ∷ []) a b = subst
     (λ k. Takes (layout_slot.Held (layout.NumberNeed (kind_seen k) bits) ∷ []) a b) is takes in
     subst (λ k. Takes (layout_slot.need_slots (layout.NumberNeed (kind_seen k) bits)) a b)
     (sym is) narrow
@@ -215,7 +216,7 @@ pub float_takes : (k : NumberKind) (bits : ℕ) {a b : Draft} → k ≡ kind.Flo
     → Takes (layout_slot.Held (layout.NumberNeed (kind_seen k) bits) ∷ []) a b
     → Takes (layout_slot.need_slots (layout.NumberNeed (kind_seen k) bits)) a b
 float_takes k bits {a} {b} is takes =
-    let narrow : Takes (layout_slot.Held (layout.NumberNeed layout.Float bits) ∷ []) a b = subst
+    let narrow : Takes (layout_slot.Held (layout.NumberNeed number.Float bits) ∷ []) a b = subst
     (λ k. Takes (layout_slot.Held (layout.NumberNeed (kind_seen k) bits) ∷ []) a b) is takes in
     subst (λ k. Takes (layout_slot.need_slots (layout.NumberNeed (kind_seen k) bits)) a b)
     (sym is) narrow
@@ -225,9 +226,9 @@ pub long_takes : (k : NumberKind) (bits at : ℕ) (added : Bool) {a b c : Draft}
     → FindsSlot (layout_slot.BehindLong bits) at added b c
     → Takes (layout_slot.need_slots (layout.NumberNeed (kind_seen k) bits)) a c
 long_takes k bits at added {a} {b} {c} is takes found =
-    let wide : Takes (layout_slot.Held (layout.NumberNeed layout.Long bits) ∷ []) a b = subst
+    let wide : Takes (layout_slot.Held (layout.NumberNeed number.Long bits) ∷ []) a b = subst
     (λ k. Takes (layout_slot.Held (layout.NumberNeed (kind_seen k) bits) ∷ []) a b) is takes in
-    let both : Takes (layout_slot.Held (layout.NumberNeed layout.Long bits)
+    let both : Takes (layout_slot.Held (layout.NumberNeed number.Long bits)
     ∷ layout_slot.BehindLong bits ∷ []) a c = takes_then wide
     (takes_behind (layout_slot.BehindLong bits) at added b c (λ _. refl) found) in
     subst (λ k. Takes (layout_slot.need_slots (layout.NumberNeed (kind_seen k) bits)) a c)
@@ -238,9 +239,9 @@ pub double_takes : (k : NumberKind) (bits at : ℕ) (added : Bool) {a b c : Draf
     → FindsSlot (layout_slot.BehindDouble bits) at added b c
     → Takes (layout_slot.need_slots (layout.NumberNeed (kind_seen k) bits)) a c
 double_takes k bits at added {a} {b} {c} is takes found =
-    let wide : Takes (layout_slot.Held (layout.NumberNeed layout.Double bits) ∷ []) a b = subst
+    let wide : Takes (layout_slot.Held (layout.NumberNeed number.Double bits) ∷ []) a b = subst
     (λ k. Takes (layout_slot.Held (layout.NumberNeed (kind_seen k) bits) ∷ []) a b) is takes in
-    let both : Takes (layout_slot.Held (layout.NumberNeed layout.Double bits)
+    let both : Takes (layout_slot.Held (layout.NumberNeed number.Double bits)
     ∷ layout_slot.BehindDouble bits ∷ []) a c = takes_then wide
     (takes_behind (layout_slot.BehindDouble bits) at added b c (λ _. refl) found) in
     subst (λ k. Takes (layout_slot.need_slots (layout.NumberNeed (kind_seen k) bits)) a c)

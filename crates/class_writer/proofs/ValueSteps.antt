@@ -4,6 +4,7 @@ use Rattle.class_desc.specs.declared.annotation.AnnDesc.{AnnDesc, out-AnnDesc}
 use Rattle.class_desc.specs.declared.annotation.ElemPair.{ElemPair, out-ElemPair}
 use Rattle.class_desc.specs.declared.annotation.ElemValue.{ElemValue}
 use Rattle.class_desc.specs.declared.annotation.ElemValue.TheVariants as value
+use Rattle.class_desc.specs.declared.element_tag.TheConstants.{ENUMERATED, CLASS, ANNOTATION, LIST}
 use Rattle.class_desc.specs.declared.value.Value.{Value}
 use Rattle.class_desc.specs.Layout.{Need, Tag, EntryNumber, TextNeed, constant_need, text_item}
 use Rattle.class_desc.specs.Layout.{counted, value_items, annotation_items, element_items}
@@ -21,7 +22,7 @@ constant_put v tag constant need is same one two =
 
 pub enumerated_put : (v : ElemValue) (descriptor name : List ℕ) {a b c d : Outline}
     → v ≡ value.Enumerated descriptor name
-    → Puts (Tag 0x65 ∷ []) a b → Puts (text_item descriptor ∷ []) b c
+    → Puts (Tag ENUMERATED ∷ []) a b → Puts (text_item descriptor ∷ []) b c
     → Puts (text_item name ∷ []) c d → Puts (value_items v) a d
 enumerated_put v descriptor name is one two three =
     puts_as (sym (ap value_items is ∙ enumerated_items descriptor name))
@@ -29,22 +30,22 @@ enumerated_put v descriptor name is one two three =
 
 pub class_of_put : (v : ElemValue) (descriptor : List ℕ) {a b c : Outline}
     → v ≡ value.ClassOf descriptor
-    → Puts (Tag 0x63 ∷ []) a b → Puts (text_item descriptor ∷ []) b c → Puts (value_items v) a c
+    → Puts (Tag CLASS ∷ []) a b → Puts (text_item descriptor ∷ []) b c → Puts (value_items v) a c
 class_of_put v descriptor is one two = puts_as
     (sym (ap value_items is ∙ class_of_items descriptor)) (puts_then one two)
 
 pub nested_put : (v : ElemValue) (annotation got : AnnDesc) {a b c : Outline}
     → v ≡ value.Nested annotation → got ≡ annotation
-    → Puts (Tag 0x40 ∷ []) a b → Puts (annotation_items got) b c → Puts (value_items v) a c
+    → Puts (Tag ANNOTATION ∷ []) a b → Puts (annotation_items got) b c → Puts (value_items v) a c
 nested_put v annotation got is same one two =
-    puts_as (ap (λ a. Tag 0x40 ∷ annotation_items a) same
+    puts_as (ap (λ a. Tag ANNOTATION ∷ annotation_items a) same
     ∙ sym (ap value_items is ∙ nested_items annotation)) (puts_then one two)
 
 pub list_put : (v : ElemValue) (values got : List ElemValue) {a b c : Outline}
     → v ≡ value.List values → got ≡ values
-    → Puts (Tag 0x5B ∷ []) a b → Puts (counted value_items got) b c → Puts (value_items v) a c
+    → Puts (Tag LIST ∷ []) a b → Puts (counted value_items got) b c → Puts (value_items v) a c
 list_put v values got is same one two =
-    puts_as (ap (λ vs. Tag 0x5B ∷ counted value_items vs) same
+    puts_as (ap (λ vs. Tag LIST ∷ counted value_items vs) same
     ∙ sym (ap value_items is ∙ list_items values)) (puts_then one two)
 
 pub annotation_put : (annotation : AnnDesc) (elements : List ElemPair) {a b c : Outline}

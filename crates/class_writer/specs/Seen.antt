@@ -1,5 +1,7 @@
 -- Entries and items that the code keeps, without where their texts lie in memory.
 use Rattle.std.specs.Prelude.{ℕ, List}
+use Rattle.class_desc.specs.declared.constant_kind.NumberKind as numbers
+use Rattle.class_desc.specs.declared.constant_kind.NumberKind.TheVariants as number
 use Rattle.class_desc.specs.Layout as layout
 use Rattle.class_writer.specs.declared.need.NumberKind.{NumberKind}
 use Rattle.class_writer.specs.declared.need.NumberKind.TheVariants as kind
@@ -13,11 +15,11 @@ use Rattle.class_writer.specs.declared.item.Item.{Item}
 use Rattle.class_writer.specs.declared.item.Item.TheVariants as item
 use Rattle.class_writer.specs.Slots as slots
 
-abbrev pub kind_seen : NumberKind → layout.NumberKind
-kind_seen kind.Integer = layout.Integer
-kind_seen kind.Float = layout.Float
-kind_seen kind.Long = layout.Long
-kind_seen kind.Double = layout.Double
+abbrev pub kind_seen : NumberKind → numbers.NumberKind
+kind_seen kind.Integer = number.Integer
+kind_seen kind.Float = number.Float
+kind_seen kind.Long = number.Long
+kind_seen kind.Double = number.Double
 
 abbrev pub need_seen : Need → layout.Need
 need_seen (need.Text text) = layout.TextNeed text.now

@@ -3,7 +3,10 @@
 use Rattle.std.specs.Prelude.{ℕ, ◌+◌, ◌==◌, Bool, false, List, [], ◌∷◌, ◌++◌, length}
 use Rattle.std.specs.List.{flat_map, position_or_len}
 use Rattle.std.specs.Int.{w16, to_be_bytes}
-use Rattle.class_desc.specs.Layout.{NumberKind, Integer, Float, Long, Double, Need, TextNeed}
+use Rattle.class_desc.specs.declared.constant_kind.NumberKind.{NumberKind}
+use Rattle.class_desc.specs.declared.constant_kind.NumberKind.TheVariants.{Integer, Float, Long}
+use Rattle.class_desc.specs.declared.constant_kind.NumberKind.TheVariants.{Double}
+use Rattle.class_desc.specs.Layout.{Need, TextNeed}
 use Rattle.class_desc.specs.Layout.{ClassNeed, StringNeed, NumberNeed, is_need, number_tag}
 use Rattle.class_desc.specs.Layout.{with_its_text, bits_bytes, item_needs, Item}
 

@@ -2,43 +2,21 @@
 ghost use Rattle.std.specs.Prelude.{◌≡◌, OnOk};
 ghost use Rattle.class_desc.specs.Layout.{attribute_items, component_items, inner_class_items};
 ghost use Rattle.class_desc.specs.Layout.{parameter_items, counted, for_parameters};
-ghost use Rattle.class_desc.specs.Layout.{attribute_name};
 ghost use Rattle.class_writer.specs.Bodies.{body_items};
 ghost use Rattle.class_writer.specs.Writing.{Puts};
 
 use crate::item::Item;
 use crate::items::Items;
 use crate::need::{Place, need_of};
-use class_desc::{Attr, ComponentDesc, InnerEntry, ParamEntry, attribute_name as names};
+use class_desc::{Attr, ComponentDesc, InnerEntry, ParamEntry};
 use hdr_core::Memory;
-
-fn name_of(attr: &Attr) -> &'static [u8]
-    ensures { result.now ≡ attribute_name attr.now }
-{
-    match attr {
-        Attr::ConstantValue(_) => names::CONSTANT_VALUE,
-        Attr::Exceptions(_) => names::EXCEPTIONS,
-        Attr::Signature(_) => names::SIGNATURE,
-        Attr::Deprecated => names::DEPRECATED,
-        Attr::Synthetic => names::SYNTHETIC,
-        Attr::InnerClasses(_) => names::INNER_CLASSES,
-        Attr::Components(_) => names::RECORD,
-        Attr::PermittedSubclasses(_) => names::PERMITTED_SUBCLASSES,
-        Attr::AnnotationDefault(_) => names::ANNOTATION_DEFAULT,
-        Attr::MethodParameters(_) => names::METHOD_PARAMETERS,
-        Attr::VisibleAnns(_) => names::VISIBLE_ANNOTATIONS,
-        Attr::InvisibleAnns(_) => names::INVISIBLE_ANNOTATIONS,
-        Attr::VisibleParamAnns(_) => names::VISIBLE_PARAMETER_ANNOTATIONS,
-        Attr::InvisibleParamAnns(_) => names::INVISIBLE_PARAMETER_ANNOTATIONS,
-    }
-}
 
 impl<'a> Items<'a> {
     #[cycle(attributes)]
     fn attribute(&mut self, attr: &'a Attr) -> Result<(), Memory>
         ensures { OnOk result (Puts (attribute_items attr.now) self.old self.new) }
     {
-        let begun = self.begin_attribute(name_of(attr))?;
+        let begun = self.begin_attribute(attr.name())?;
         self.body(attr)?;
         self.end_attribute(begun);
         Ok(())

@@ -7,7 +7,7 @@ ghost use Rattle.class_writer.specs.Writing.{Puts};
 use crate::item::Item;
 use crate::items::Items;
 use crate::need::{Place, need_of};
-use class_desc::{AnnDesc, ElemPair, ElemValue};
+use class_desc::{AnnDesc, ElemPair, ElemValue, element_tag};
 use hdr_core::{List, Memory};
 
 impl<'a> Items<'a> {
@@ -21,20 +21,20 @@ impl<'a> Items<'a> {
                 self.push(Item::EntryNumber(need_of(value, Place::Element)))
             }
             ElemValue::Enumerated { descriptor, name } => {
-                self.push(Item::Tag(b'e'))?;
+                self.push(Item::Tag(element_tag::ENUMERATED))?;
                 self.text(descriptor)?;
                 self.text(name)
             }
             ElemValue::ClassOf(descriptor) => {
-                self.push(Item::Tag(b'c'))?;
+                self.push(Item::Tag(element_tag::CLASS))?;
                 self.text(descriptor)
             }
             ElemValue::Nested(annotation) => {
-                self.push(Item::Tag(b'@'))?;
+                self.push(Item::Tag(element_tag::ANNOTATION))?;
                 self.annotation(annotation.get())
             }
             ElemValue::List(values) => {
-                self.push(Item::Tag(b'['))?;
+                self.push(Item::Tag(element_tag::LIST))?;
                 self.values(values.items())
             }
         }

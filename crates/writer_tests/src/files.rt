@@ -1,7 +1,6 @@
 //! Whole files.
 use crate::built::{field, file_of, method, none, one, string, text};
 use class_desc::{Attr, ClassDesc, FieldDesc, Value};
-use class_reader::read_class;
 use hdr_core::List;
 use std::process::Abort;
 
@@ -68,16 +67,4 @@ fn shares_the_text_of_a_string(rt: HostRuntime) {
         \0\x01\0\x19\0\x05\0\x06\0\x01\0\x07\0\0\0\x02\0\x09\
         \0\x01\0\x01\0\x08\0\x0a\0\0\0\0";
     assert!(rt; file.as_slice() == want);
-}
-
-/// What is written without attributes is read again as it was.
-#[test]
-fn reads_what_is_written(rt: HostRuntime) {
-    let file = file_of(
-        &rt,
-        &class_of(&rt, one(&rt, field(&rt, b"f", b"I", none(&rt)))),
-    );
-    assert!(rt; file.len() <= 16_777_216);
-    let again = read_class(rt.alloc(), &file).expect(&rt, "a class");
-    assert!(rt; file_of(&rt, &again).as_slice() == file.as_slice());
 }

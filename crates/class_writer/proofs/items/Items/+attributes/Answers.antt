@@ -11,10 +11,9 @@ use Rattle.class_writer.proofs.items.Items.+attributes.Goals as goal
 
 pub attribute-returns : goal.attribute-returns
 attribute-returns t c =
-    attribute_put c.args.attr.now c.name_of.result.now c.in_ok-begun.begun c.args.self.now
-    c.begin_attribute.new.self
-    c.body.new.self c.end_attribute.new.self c.name_of.ensures c.in_ok-begun.ensures
-    c.in_ok-body.ensures c.end_attribute.ensures
+    attribute_put c.args.attr.now c.name.result.now c.in_ok-begun.begun c.args.self.now
+    c.begin_attribute.new.self c.body.new.self c.end_attribute.new.self c.name.ensures
+    c.in_ok-begun.ensures c.in_ok-body.ensures c.end_attribute.ensures
 
 pub component-returns : goal.component-returns
 component-returns t c =
