@@ -1,9 +1,11 @@
 pub mod Alike
 pub mod Filtered
 pub mod Members
+pub mod OneOfAKind
 pub mod Settled
 pub mod Staying
 pub mod Stripped
+pub mod StrippedAttributes
 pub mod Viewed
 pub mod Ways
 pub mod Worlds

@@ -31,7 +31,7 @@ module _ {A : Type 0} (p q : A → Bool) (wider : (x : A) → p x ≡ true → q
       by false true head tail any = refl
       by false false head tail any = tail any
 
-  no_longer : (xs : List A) → length (filter p xs) ≤ length (filter q xs)
+  pub no_longer : (xs : List A) → length (filter p xs) ≤ length (filter q xs)
   no_longer [] = omega arith
   no_longer (x ∷ xs) = by (p x) (q x) (wider x) (no_longer xs)
     where

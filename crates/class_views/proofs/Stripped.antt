@@ -1,16 +1,19 @@
--- A file of the stripped description has the pool of the description's file, and of the bytes of
--- the members those of the members that stay.
-use Rattle.std.proofs.Common.{◌≡◌, ℕ, ◌+◌, ◌<◌, ◌^◌, List, ◌++◌, length, refl, ap, ◌∙◌, sym}
+-- A file of the stripped description has the pool of the description's file, of the bytes of the
+-- members those of the members that stay, and the bytes of what is left of the attributes.
+use Rattle.std.proofs.Common.{◌≡◌, ◌∙◌, ℕ, ◌+◌, List, [], ◌++◌, length, refl, sym}
 use Rattle.std.proofs.Common.{subst, append_assoc}
 use Rattle.std.specs.List.{flat_map}
 use Rattle.std.specs.Int.{w16, w32, to_be_bytes}
 use Rattle.class_desc.specs.declared.class.ClassDesc.{ClassDesc}
+use Rattle.class_desc.specs.declared.place.Place.TheVariants as place
+use Rattle.class_desc.specs.Attributes.{ComponentSpells}
 use Rattle.class_desc.specs.Pool.{Entry, entry_bytes, numbered}
 use Rattle.class_desc.specs.ClassFile.{FieldSpells, MethodSpells, is_key, field_key, method_key}
 use Rattle.class_desc.specs.ClassFile.{Parts, magic, file_bytes, IsValid}
-use Rattle.class_views.specs.Strip.{stays_field, stays_method, strip_attribute, strip_class}
+use Rattle.class_views.specs.Strip.{stays_field, stays_method, strip_class}
 use Rattle.lemmas.proofs.Lists.{all_append, all_front, all_behind}
-use Rattle.class_views.proofs.Filtered.{AreBytes, distinct_stay, counted_stay}
+use Rattle.class_views.proofs.Filtered.{IsByte, AreBytes, distinct_stay, counted_stay}
+use Rattle.class_views.proofs.StrippedAttributes.{attributes_left}
 
 -- the parts of a file in front of its members
 before_members : ClassDesc → List Entry → Parts → List ℕ
@@ -39,7 +42,6 @@ pub stripped_valid : (d : ClassDesc) → IsValid d → IsValid (strip_class d)
 unfolding before_members
 stripped_valid d (bytes, all, (pool, s)) =
     let p = s.parts in
-    let IsByte = λ (b : ℕ). b < 2 ^ 8 in
     let front = before_members d pool p in
     let parts : AreBytes (front ++ (p.fields ++ (p.methods ++ p.attributes))) =
     subst AreBytes (s.whole ∙ in_two d pool p) all in
@@ -51,13 +53,18 @@ stripped_valid d (bytes, all, (pool, s)) =
     (all_front IsByte p.fields (p.methods ++ p.attributes) members) s.fields in
     let methods = counted_stay stays_method (MethodSpells pool) d.methods p.methods
     (all_front IsByte p.methods p.attributes behind) s.methods in
-    let left : Parts = record p { fields = fields.0; methods = methods.0 } in
-    let fit : AreBytes (front ++ (fields.0 ++ (methods.0 ++ p.attributes))) =
-    all_append IsByte front (fields.0 ++ (methods.0 ++ p.attributes))
+    let attributes = attributes_left d pool place.Class [] (ComponentSpells pool) d.attrs
+    p.attributes (all_behind IsByte p.methods p.attributes behind) s.attributes in
+    let left : Parts = record p {
+      fields = fields.bytes;
+      methods = methods.bytes;
+      attributes = attributes.bytes;
+    } in
+    let fit : AreBytes (front ++ (fields.bytes ++ (methods.bytes ++ attributes.bytes))) =
+    all_append IsByte front (fields.bytes ++ (methods.bytes ++ attributes.bytes))
     (all_front IsByte front (p.fields ++ (p.methods ++ p.attributes)) parts)
-    (all_append IsByte fields.0 (methods.0 ++ p.attributes) fields.1
-    (all_append IsByte methods.0 p.attributes methods.1
-    (all_behind IsByte p.methods p.attributes behind))) in (
+    (all_append IsByte fields.bytes (methods.bytes ++ attributes.bytes) fields.are
+    (all_append IsByte methods.bytes attributes.bytes methods.are attributes.are)) in (
       file_bytes (strip_class d) pool left,
       subst AreBytes (sym (in_two (strip_class d) pool left)) fit,
       (
@@ -75,18 +82,12 @@ stripped_valid d (bytes, all, (pool, s)) =
           super_fits = s.super_fits;
           interface_count = s.interface_count;
           interfaces = s.interfaces;
-          fields = fields.2;
+          fields = fields.spelled;
           distinct_fields = distinct_stay stays_field field_key is_key d.fields s.distinct_fields;
-          methods = methods.2;
+          methods = methods.spelled;
           distinct_methods = distinct_stay stays_method method_key is_key d.methods
               s.distinct_methods;
-          attributes = record {
-            raw = s.attributes.raw;
-            count = s.attributes.count;
-            whole = s.attributes.whole;
-            each = s.attributes.each;
-            none_kept = ap (flat_map (strip_attribute d)) s.attributes.none_kept;
-          };
+          attributes = attributes.spelled;
         },
       ),
     )

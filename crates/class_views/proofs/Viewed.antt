@@ -25,12 +25,12 @@ use Rattle.class_views.proofs.Filtered.{map_filter}
 
 -- ---- attributes of other kinds
 
-is_inner : (layer : Layer) (entries : List InnerEntry) → inner_in layer ≡ Some entries →
+pub is_inner : (layer : Layer) (entries : List InnerEntry) → inner_in layer ≡ Some entries →
     layer ≡ Attr-F.InnerClasses entries
 is_inner (Attr-F.InnerClasses own) entries is = cc
 is_inner other entries is = cc
 
-out_inner : (entries : List InnerEntry) → out-Attr (InnerClasses entries)
+pub out_inner : (entries : List InnerEntry) → out-Attr (InnerClasses entries)
     ≡ Attr-F.InnerClasses entries
 unfolding out-Attr denote.Hole.Carrier.out
 out_inner entries = refl

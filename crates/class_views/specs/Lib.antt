@@ -3,6 +3,7 @@ pub mod Alike
 pub mod Flags
 pub mod Kept
 pub mod Membership
+pub mod OneOfAKind
 pub mod OneStep
 pub mod Query
 pub mod Resolution

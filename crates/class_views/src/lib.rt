@@ -10,7 +10,7 @@ mod supertype_laws;
 pub use member_laws::{members_are_apart, members_come_from_supertypes, members_come_in_one_step};
 pub use stripping::{
     kept_classes_are_least, staying_entries_are_least, strip_shows_the_stripped_view,
-    stripped_is_valid,
+    stripped_is_valid, valid_has_one_of_a_kind,
 };
 pub use supertype_laws::{
     chains_are_steady, folds_are_alike, folds_settle, walks_come_from_supertypes,

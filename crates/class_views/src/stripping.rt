@@ -3,6 +3,7 @@ ghost use Rattle.std.specs.Prelude.{◌≡◌, List};
 ghost use Rattle.class_desc.specs.declared.attribute.InnerEntry.{InnerEntry};
 ghost use Rattle.class_desc.specs.declared.class.ClassDesc.{ClassDesc};
 ghost use Rattle.class_desc.specs.ClassFile.{IsValid};
+ghost use Rattle.class_views.specs.OneOfAKind.{HasOneOfEach};
 ghost use Rattle.class_views.specs.Staying.{IsLeast};
 ghost use Rattle.class_views.specs.Strip.{HasOneInnerClasses, entry_begins, names_entry};
 ghost use Rattle.class_views.specs.Strip.{stays_entry, strip_class, strip_view};
@@ -28,9 +29,20 @@ pub fn stripped_is_valid()
     ensures { (d : ClassDesc) → IsValid d → IsValid (strip_class d) }
 {}
 
+/// A description that some file spells has at most one attribute of a kind at each place, and so
+/// has the stripped one; of InnerClasses there is then at most one.
+pub fn valid_has_one_of_a_kind()
+    ensures each { (d : ClassDesc) → IsValid d → HasOneOfEach d }
+    ensures stripped { (d : ClassDesc) → IsValid d → HasOneOfEach (strip_class d) }
+    ensures inner_classes { (d : ClassDesc) → IsValid d → HasOneInnerClasses d }
+{}
+
 /// The view of the stripped description is the stripped view, where the description has no two
 /// InnerClasses: of two the first may go, and then the second tells of the class.
 pub fn strip_shows_the_stripped_view()
-    ensures { (d : ClassDesc) → HasOneInnerClasses d → view_of_desc (strip_class d)
+    ensures one { (d : ClassDesc) → HasOneInnerClasses d → view_of_desc (strip_class d)
+        ≡ strip_view (view_of_desc d) }
+    // So is that of each description that some file spells.
+    ensures valid { (d : ClassDesc) → IsValid d → view_of_desc (strip_class d)
         ≡ strip_view (view_of_desc d) }
 {}
