@@ -5,3 +5,4 @@ pub mod Resolved
 pub mod Stripping
 pub mod Twins
 pub mod Unhidden
+pub mod Written

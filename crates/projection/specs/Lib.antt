@@ -1,3 +1,4 @@
 pub mod ShowsLess
 pub mod Stripping
 pub mod Survives
+pub mod Written

@@ -4,4 +4,6 @@
 
 mod laws;
 
-pub use laws::{membership_survives, resolution_survives, stripping_shows_less};
+pub use laws::{
+    membership_survives, resolution_survives, stripping_keeps_answers, stripping_shows_less,
+};

@@ -1,3 +1,4 @@
 pub mod Pairs
 pub mod Premises
 pub mod Surviving
+pub mod Wrong

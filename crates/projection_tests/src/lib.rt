@@ -6,6 +6,7 @@ ghost use Rattle.projection_tests.specs.Pairs.{Agree, AreHidden, all_read, none_
 ghost use Rattle.projection_tests.specs.Premises.{gone_pairs, hidden_pairs, initialiser_pairs};
 ghost use Rattle.projection_tests.specs.Premises.{lost_pairs};
 ghost use Rattle.projection_tests.specs.Surviving.{surviving_pairs};
+ghost use Rattle.projection_tests.specs.Wrong.{WrongOnes};
 
 /// Each question about a pair of worlds has the two answers that stand beside it: the same one
 /// where it survives, and another one where a premise of the laws doesn't hold.
@@ -18,4 +19,9 @@ pub fn answers_agree()
     ensures lost { Agree lost_pairs }
     ensures initialiser { Agree initialiser_pairs }
     ensures gone { Agree gone_pairs }
+{}
+
+/// What a wrong stripping leaves doesn't keep the answers.
+pub fn wrong_strippings_lose_answers()
+    ensures { WrongOnes }
 {}
