@@ -1,6 +1,8 @@
 ghost use Rattle.std.specs.Prelude.{◌≡◌, IfOk, Some, None, if◌then◌else◌};
-ghost use Rattle.class_views.specs.Strip.{strip_class};
+ghost use Rattle.std.specs.List.{AllByRecursion};
+ghost use Rattle.class_views.specs.Strip.{strip_class, HasOneInnerClasses};
 ghost use Rattle.class_views.specs.Kept.{strip_each};
+ghost use Rattle.projection.specs.Written.{left_in, KeepsAnswers};
 
 use crate::attributes::{copy_attributes, keep_attributes};
 use crate::entries::attribute_marks;
@@ -78,8 +80,11 @@ fn kept_class(alloc: Global, desc: ClassDesc, kept: bool) -> Result<Option<Class
 
 /// The classes of a list that are kept, stripped, each in its place: all but the local and
 /// anonymous ones, and of these the ones that a kept class names as superclass or superinterface.
+/// What clients find in the list they find in what is left of it.
 pub fn strip_all(alloc: Global, list: &[ClassDesc]) -> Result<Vec<Option<ClassDesc>>, Memory>
-    ensures { IfOk result (λ all. all.items ≡ strip_each list.now) }
+    ensures each { IfOk result (λ all. all.items ≡ strip_each list.now) }
+    ensures answers { IfOk result (λ all. AllByRecursion HasOneInnerClasses list.now →
+        KeepsAnswers list.now (left_in all.items)) }
 {
     let marks = kept_marks(alloc, list)?;
     let mut all = Vec::with_capacity(alloc, list.len())?;
@@ -94,7 +99,9 @@ pub fn into_all_stripped(
     alloc: Global,
     list: Vec<ClassDesc>,
 ) -> Result<Vec<Option<ClassDesc>>, Memory>
-    ensures { IfOk result (λ all. all.items ≡ strip_each list.items) }
+    ensures each { IfOk result (λ all. all.items ≡ strip_each list.items) }
+    ensures answers { IfOk result (λ all. AllByRecursion HasOneInnerClasses list.items →
+        KeepsAnswers list.items (left_in all.items)) }
 {
     let marks = kept_marks(alloc, &list)?;
     let mut all = Vec::with_capacity(alloc, list.len())?;

@@ -1,11 +1,12 @@
-use Rattle.std.proofs.Common.{◌≡◌, ◌<◌, arith, Bool, [], ◌∷◌, ◌++◌, length, map, take, ap, sym}
-use Rattle.std.proofs.Common.{◌∙◌}
+use Rattle.std.proofs.Common.{◌≡◌, ◌<◌, ◌-◌, arith, Bool, [], ◌∷◌, ◌++◌, length, map, take, drop}
+use Rattle.std.proofs.Common.{ap, sym, ◌∙◌}
 use Rattle.std.specs.Prelude.{Option, Some, None, if◌then◌else◌}
 use Rattle.std.specs.Vec.Iter.{into_iter_items}
-use Rattle.std.proofs.lemmas.List.{map-id}
+use Rattle.std.proofs.lemmas.List.{map-id, take_all, length-drop}
 use Rattle.class_desc.specs.declared.class.ClassDesc.{ClassDesc}
 use Rattle.class_views.specs.Strip.{strip_class}
-use Rattle.class_views.specs.Kept.{is_kept}
+use Rattle.class_views.specs.Kept.{is_kept, strip_each}
+use Rattle.projection.proofs.Written.{left_keeps}
 use Rattle.ijar_strip.proofs.Loops.{IsNext, next_at, map_step, mapped_at, as_many}
 use Rattle.ijar_strip.proofs.stripping.into_all_stripped.Goals as goal
 
@@ -41,3 +42,19 @@ loop-desc-preserved c =
           mark)
           ∙ map_step left all i x inside at.is));
     }
+
+pub returns-clause-answers : goal.returns-clause-answers
+returns-clause-answers c = λ one.
+    let all = into_iter_items c.into_iter-desc-iterator.result in
+    let i = c.loop-desc.index in
+    let left : ClassDesc → Option ClassDesc = λ d. if is_kept all d then Some (strip_class d)
+    else None in
+    let empty : length (into_iter_items c.loop-desc.desc-iterator) ≡ 0 =
+    sym c.loop-desc.desc-iterator.rest.ok.0 ∙ c.in-None.ensures.steps.0 in
+    let long : length (drop i all) ≡ length all - i = length-drop i all in
+    let none : length (drop i all) ≡ 0 = ap length (sym c.loop-desc.invariant.rest) ∙ empty in
+    let whole : all ≡ c.args.list.items = c.into_iter-desc-iterator.ensures.into_iter_gives.0 in
+    left_keeps c.args.list.items c.loop-desc.all.items
+    (c.loop-desc.invariant.done
+    ∙ (ap (map left) (take_all i all (omega arith)) ∙ ap strip_each whole))
+    one
