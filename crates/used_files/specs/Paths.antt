@@ -12,14 +12,17 @@ use Rattle.used_files.specs.Order.{in_order}
 
 -- ---- the parts of a path
 
--- the parts of a path, with '/' between them
+-- '/', which stands between the parts of a path
+abbrev pub slash : ℕ
+slash = 47
+
 abbrev pub parts_of : List ℕ → List (List ℕ)
-parts_of path = slice_split (λ b. b == 47) path
+parts_of path = slice_split (λ b. b == slash) path
 
 -- the first folder of a path, and what stands behind its '/'
 abbrev pub first_folder : List ℕ → Option (List ℕ × List ℕ)
 first_folder path =
-    option_map (λ at. (take at path, drop (at + 1) path)) (position (λ b. b == 47) path)
+    option_map (λ at. (take at path, drop (at + 1) path)) (position (λ b. b == slash) path)
 
 -- all but the last
 abbrev pub front_of : {A : Type 0} → List A → List A
@@ -39,7 +42,7 @@ last_part path = last_of (parts_of path)
 -- what stands behind a '/' in front
 abbrev pub behind_slash : List ℕ → Option (List ℕ)
 behind_slash [] = None
-behind_slash (b ∷ bs) = if b == 47 then Some bs else None
+behind_slash (b ∷ bs) = if b == slash then Some bs else None
 
 -- what stands behind the root and a '/'
 abbrev pub behind_root : List ℕ → List ℕ → Option (List ℕ)
