@@ -37,7 +37,6 @@ content_of file =
 -- ---- the format of class files
 
 abbrev pub code_of_kind : ClassKind → Code
-code_of_kind kind.NotYet = code.F0
 code_of_kind kind.F1 = code.F1
 code_of_kind kind.F2 = code.F2
 code_of_kind kind.F3 = code.F3
@@ -49,6 +48,7 @@ code_of_kind kind.F8 = code.F8
 code_of_kind kind.F9 = code.F9
 code_of_kind kind.F10 = code.F10
 code_of_kind kind.F11 = code.F11
+code_of_kind kind.F12 = code.F12
 
 abbrev pub unspelled : Numbered → Result Content ClassFault → List Diag
 unspelled n (Ok content) = []

@@ -2,3 +2,4 @@ pub mod Contents
 pub mod Found
 pub mod Phases
 pub mod Reading
+pub mod Valid

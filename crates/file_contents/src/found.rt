@@ -5,6 +5,7 @@ ghost use Rattle.hdr_core.specs.Causes.{CountsFault};
 ghost use Rattle.hdr_core.specs.Held.{HoldsPath, HoldsBytes, HoldsBeyond};
 ghost use Rattle.hdr_core.specs.declared.files.TheConstants.{LONGEST_FILE};
 ghost use Rattle.file_contents.specs.Found.{Takes, Decodes, IsFound};
+ghost use Rattle.file_contents.specs.Valid.{AreValid};
 ghost use Rattle.used_files.specs.Paths.{File, Place, file_at, used_file};
 ghost use Rattle.file_contents.specs.Reading.{diag_in, diag_at};
 ghost use Rattle.file_contents.specs.Contents.{code_of_kind as code_of_kind_of};
@@ -54,7 +55,6 @@ fn code_of_kind(kind: ClassKind) -> Code
     ensures { result ≡ code_of_kind_of kind }
 {
     match kind {
-        ClassKind::NotYet => Code::F0,
         ClassKind::F1 => Code::F1,
         ClassKind::F2 => Code::F2,
         ClassKind::F3 => Code::F3,
@@ -66,6 +66,7 @@ fn code_of_kind(kind: ClassKind) -> Code
         ClassKind::F9 => Code::F9,
         ClassKind::F10 => Code::F10,
         ClassKind::F11 => Code::F11,
+        ClassKind::F12 => Code::F12,
     }
 }
 
@@ -97,7 +98,10 @@ fn decode(
     found: &mut Found,
 ) -> Result<(), Memory>
     requires { length bytes.now ≤ 2 ^ 24 }
-    ensures { OnOk result (Decodes (file, used_file place.entry bytes.now) found.old found.new) }
+    ensures decodes { OnOk result
+        (Decodes (file, used_file place.entry bytes.now) found.old found.new) }
+    ensures valid { OnOk result
+        (AreValid found.old.items.items → AreValid found.new.items.items) }
 {
     match read_content(alloc, &place, bytes) {
         Ok(content) => {
@@ -133,6 +137,8 @@ fn count(
     ensures takes { IfOk result (λ goes_on.
         Takes limits (file, used_file place.entry bytes.now) found.old found.new goes_on) }
     ensures few { IfOk result (λ goes_on. goes_on ≡ true → found.new.total ≤ limits.bytes) }
+    ensures valid { OnOk result
+        (AreValid found.old.items.items → AreValid found.new.items.items) }
 {
     found.total += bytes.len() as u64;
     if found.total > limits.bytes as u64 {
@@ -159,6 +165,8 @@ fn take_file<F: Files>(
     ensures takes { IfOk result (λ goes_on. IfSome (F.held files.old) (λ held.
         Takes limits (file, file_at held place.entry) found.old found.new goes_on)) }
     ensures few { IfOk result (λ goes_on. goes_on ≡ true → found.new.total ≤ limits.bytes) }
+    ensures valid { OnOk result
+        (AreValid found.old.items.items → AreValid found.new.items.items) }
     ensures stops { IfErr result (λ stop.
         StopsOnly stop (λ path. path ≡ place.entry.path) (λ _. ⊥)) }
     ensures faults { FaultRises result (F.faults files.old) (F.faults files.new) }
@@ -188,6 +196,7 @@ pub fn read_files<F: Files>(
     requires few { length used.items ≤ limits.files }
     ensures found { IfOk result (λ found. IfSome (F.held files.old) (λ held.
         IsFound limits (map (file_at held) used.entry.items) found)) }
+    ensures valid { IfOk result (λ found. AreValid found.items.items) }
     ensures stops { IfErr result (λ stop. StopsOnly stop
         (λ path. Contains (map (λ place. place.path) used.entry.items) path) (λ _. ⊥)) }
     ensures faults { FaultRises result (F.faults files.old) (F.faults files.new) }

@@ -4,6 +4,7 @@ ghost use Rattle.pool_reader.specs.Reading.{Answers};
 ghost use Rattle.used_files.specs.Paths.{Place, UsedFile, used_file};
 ghost use Rattle.file_contents.specs.Contents.{module_content as module_content_of, content_of};
 ghost use Rattle.file_contents.specs.Contents.{item_name};
+ghost use Rattle.file_contents.specs.Valid.{IsValidContent};
 
 use class_desc::ClassDesc;
 use class_reader::read_class;
@@ -64,7 +65,9 @@ fn module_content(alloc: Global, below: &str, bytes: &[u8]) -> Result<Content, M
 /// What the bytes of a used file are: a class, or a module's description.
 pub fn read_content(alloc: Global, place: &UsedPath<'_>, bytes: &[u8]) -> Result<Content, ReadErr>
     requires { length bytes.now ≤ 2 ^ 24 }
-    ensures { Answers (λ content. content) result (content_of (used_file place.now bytes.now)) }
+    ensures exact { Answers (λ content. content) result
+        (content_of (used_file place.now bytes.now)) }
+    ensures valid { IfOk result IsValidContent }
 {
     if is_module(place.path()) {
         let below = part_below(place.root(), place.path());

@@ -7,6 +7,7 @@ ghost use Rattle.file_contents.specs.Phases.{file_phases};
 ghost use Rattle.file_contents.specs.Contents.{items_of};
 ghost use Rattle.used_files.specs.Stops.{IsFilled, StopsOnly, FaultRises, IsRootOrUsed};
 ghost use Rattle.file_contents.specs.Found.{TooMany};
+ghost use Rattle.file_contents.specs.Valid.{AreValid};
 
 use crate::found::{diagnostic, read_files};
 use crate::items::Item;
@@ -63,6 +64,7 @@ pub fn read_items<F: Files>(
         items.items ≡ items_of (tree held (map now_of roots.now)))) }
     ensures fine { IfOk result (λ _. IfSome (F.held files.old) (λ held.
         file_phases limits (tree held (map now_of roots.now)) ≡ [])) }
+    ensures valid { IfOk result (λ items. AreValid items.items) }
     ensures stops { IfErr result (λ stop. StopsOnly stop
         (λ path. IfSome (F.held files.old) (λ held. IsRootOrUsed held (map now_of roots.now) path))
         (λ list. IsFilled list × IfSome (F.held files.old) (λ held.

@@ -70,6 +70,11 @@ loop-place-preserved g c =
           c.in_ok-take_file.field-0 c.if-not-branch.false
           (from_some (held c.loop-place.files) _ files c.in_ok-take_file.ensures.takes
           (so_far.held ∙ e)));
+      valid = c.in_ok-take_file.ensures.valid so_far.valid;
       faults = c.in_ok-take_file.ensures.faults ∙ so_far.faults;
       held = c.in_ok-take_file.ensures.held ∙ so_far.held;
     }
+
+pub returns-then-not-branch-clause-valid : goal.returns-then-not-branch-clause-valid
+returns-then-not-branch-clause-valid g c =
+    c.in_ok-take_file.ensures.valid c.loop-place.invariant.valid

@@ -2,6 +2,7 @@ use Rattle.std.proofs.Common.{◌≡◌, ◌≤◌, length, map, drop}
 use Rattle.std.specs.Prelude.{IfSome}
 use Rattle.std.specs.Vec.Iter.{into_iter_items}
 use Rattle.used_files.specs.Paths.{file_at}
+use Rattle.file_contents.specs.Valid.{AreValid}
 use Rattle.file_contents.proofs.Reading.{SoFar}
 use Rattle.file_contents.proofs.found.read_files.Given as goal
 
@@ -16,6 +17,7 @@ invariant-loop-place g l =
       few : l.found.total ≤ l.limits.bytes;
       so_far : IfSome (held l.fn.files)
           (λ files. SoFar l.limits (map (file_at files) all) l.file l.found);
+      valid : AreValid l.found.items.items;
       faults : faults l.files ≡ faults l.fn.files;
       held : held l.files ≡ held l.fn.files;
     }
