@@ -1,4 +1,5 @@
 pub mod Ends
+pub mod Found
 pub mod Phased
 pub mod Runs
 pub mod Sourced

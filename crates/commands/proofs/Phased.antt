@@ -1,6 +1,6 @@
 -- The first phase of a job that has a diagnostic.
 use Rattle.std.proofs.Common.{◌≡◌, ℕ, List, [], sym}
-use Rattle.std.specs.Prelude.{Result, Ok, Err, IfErr}
+use Rattle.std.specs.Prelude.{Result, Ok, Err, IfOk, IfErr}
 use Rattle.hdr_core.specs.declared.diagnostics.Diag.{Diag}
 use Rattle.used_files.specs.Paths.{UsedFile}
 use Rattle.used_files.specs.Stops.{IsFilled, StopsOnly, FaultRises}
@@ -32,6 +32,10 @@ pub told_limits : (items : List Item) → twice items ≡ [] → item_phases ite
 told_limits items e = or_later (twice items) (limit_phase items) e
 
 -- ---- answers that no fault brings about
+
+pub if_ok_always : {A E : Type 0} {P : Type 0} (r : Result A E) → P → IfOk r (λ _. P)
+if_ok_always (Ok x) p = p
+if_ok_always (Err e) p = tt
 
 pub none_faults : {A : Type 0} (r : Result A Stop) (OnDiags : List Diag → Type 0)
     (before after : ℕ) → IfErr r (λ stop. StopsOnly stop (λ _. ⊥) OnDiags) → after ≡ before

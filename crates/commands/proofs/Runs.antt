@@ -12,6 +12,7 @@ use Rattle.run_ends.specs.declared.status.Status.TheVariants.{Done, Diagnosed, U
 use Rattle.run_ends.specs.declared.status.Status.TheVariants.{WriteFault, Memory}
 use Rattle.used_files.specs.declared.stop.Stop.{Stop}
 use Rattle.used_files.specs.declared.stop.Stop.TheVariants as stop
+use Rattle.commands.specs.Found.{ReadsValid}
 use Rattle.commands.specs.Outcome.{Outcome, outcome, outcome_of, made, diagnosed}
 use Rattle.run_ends.specs.Outside.{Outside, OutsState, SinkState, CanRise}
 use Rattle.used_files.specs.Stops.{StopsOnly, FaultRises}
@@ -21,6 +22,7 @@ use Rattle.run_ends.specs.Tells.{with_files}
 use Rattle.commands.specs.Runs.{Meets, MeetsFront, OfOutcome, FilesFailed, OthersFailed, Stood}
 use Rattle.commands.specs.Runs.{Runs}
 use Rattle.used_files.proofs.Options.{if_some, from_some}
+use Rattle.commands.proofs.Found.{shows_the_same}
 use Rattle.run_ends.proofs.Told.{grown_nothing, grew_nothing, grew_whole}
 use Rattle.run_ends.proofs.Written.{with_none, wrote_nothing, wrote_all}
 
@@ -81,6 +83,7 @@ undone j o = record {
   write_fault = λ e. absurd cc;
   fronts = λ _. if_some o.files.held _ (λ held _. none held);
   met = λ e. ⊎_elim (λ e. absurd cc) (λ e. absurd cc) e;
+  shows = λ e. absurd cc;
   complete = λ _ _. inr (inr refl);
   exact = λ _ _. if_some o.files.held _ (λ held _. inr refl);
   unwritten = λ _. refl;
@@ -147,6 +150,7 @@ module _ (before after : Outside) (few : CanRise before) (out : after.out ≡ be
       write_fault = λ e. absurd cc;
       fronts = λ _. if_some before.files.held _ (λ held _. fronts_refused t.front held);
       met = λ e. ⊎_elim (λ e. absurd cc) (λ e. absurd cc) e;
+      shows = λ e. absurd cc;
       complete = λ e. absurd cc;
       exact = λ e. absurd cc;
       unwritten = λ _. outs;
@@ -172,6 +176,7 @@ module _ (before after : Outside) (few : CanRise before) (out : after.out ≡ be
       write_fault = λ e. absurd cc;
       fronts = λ _. if_some before.files.held _ (λ held _. fronts_refused front held);
       met = λ e. ⊎_elim (λ e. absurd cc) (λ e. absurd cc) e;
+      shows = λ e. absurd cc;
       complete = λ _ _. inr (inr refl);
       exact = λ _ _. if_some before.files.held _ (λ held _. inr refl);
       unwritten = λ e. ⊎_elim (λ e. absurd cc) (λ e. ⊎_elim (λ e. absurd cc) (λ e. absurd cc) e) e;
@@ -217,6 +222,7 @@ module _ (before after : Outside) (few : CanRise before) (out : after.out ≡ be
         write_fault = λ e. absurd cc;
         fronts = λ still. absurd (still failed);
         met = λ e. ⊎_elim (λ e. absurd cc) (λ e. absurd cc) e;
+        shows = λ e. absurd cc;
         complete = λ _ none. absurd (none.files failed);
         exact = λ _ none. absurd (none.files failed);
         unwritten = λ _. outs;
@@ -243,6 +249,7 @@ module _ (before after : Outside) (few : CanRise before) (out : after.out ≡ be
         write_fault = λ e. absurd cc;
         fronts = λ still. absurd (still failed);
         met = λ e. ⊎_elim (λ e. absurd cc) (λ e. absurd cc) e;
+        shows = λ e. absurd cc;
         complete = λ _ none. absurd (none.files failed);
         exact = λ _ none. absurd (none.files failed);
         unwritten = λ _. outs;
@@ -265,6 +272,7 @@ module _ (before after : Outside) (few : CanRise before) (out : after.out ≡ be
         write_fault = λ e. absurd cc;
         fronts = λ _. fronts;
         met = λ e. ⊎_elim (λ e. absurd cc) (λ e. absurd cc) e;
+        shows = λ e. absurd cc;
         complete = λ _ _. inr (inr refl);
         exact = λ _ _. if_some before.files.held _ (λ held _. inr refl);
         unwritten =
@@ -283,6 +291,7 @@ module _ (before after : Outside) (few : CanRise before) (out : after.out ≡ be
         write_fault = λ _. others;
         fronts = λ _. fronts;
         met = λ e. ⊎_elim (λ e. absurd cc) (λ e. absurd cc) e;
+        shows = λ e. absurd cc;
         complete = λ _ none. absurd (none.others others);
         exact = λ _ none. absurd (none.others others);
         unwritten =
@@ -298,8 +307,9 @@ module _ (before after : Outside) (few : CanRise before) (out : after.out ≡ be
         stood = record { files = files; outs = outs; out = out_stood; err = err }
 
         in_done : OfOutcome (Doing c) before (λ o. Meets o Done before after)
-            → after.err ≡ before.err → Runs (Doing c) Done before after
-        in_done met silent = record {
+            → IfSome before.files.held (ReadsValid c) → after.err ≡ before.err
+            → Runs (Doing c) Done before after
+        in_done met valid silent = record {
           usage = λ h. absurd cc;
           usage_only = λ e. absurd cc;
           files_first = λ failed. level_files failed;
@@ -311,6 +321,12 @@ module _ (before after : Outside) (few : CanRise before) (out : after.out ≡ be
               (λ held e. front_of (outcome_of c held) Done before after
               (from_some before.files.held _ held met e));
           met = λ _. (stood, met);
+          shows =
+              λ _. if_some before.files.held _
+              (λ held e. let m : Meets
+              (outcome_of c held) Done before after = from_some before.files.held _ held met e in
+              shows_the_same c held (from_some before.files.held (ReadsValid c) held valid e)
+              (sym m.is));
           complete = λ _ _. inl refl;
           exact =
               λ _ _. if_some before.files.held _
@@ -337,6 +353,7 @@ module _ (before after : Outside) (few : CanRise before) (out : after.out ≡ be
               (λ held e. front_of (outcome_of c held) Diagnosed before after
               (from_some before.files.held _ held met e));
           met = λ _. (stood, met);
+          shows = λ e. absurd cc;
           complete = λ _ _. inr (inl refl);
           exact =
               λ _ _. if_some before.files.held _
@@ -351,6 +368,7 @@ module _ (before after : Outside) (few : CanRise before) (out : after.out ≡ be
     -- The files were made.
     module _ (list : List File)
         (are : IfSome before.files.held (λ held. outcome_of c held ≡ made list))
+        (valid : IfSome before.files.held (ReadsValid c))
         (files : after.files.faults ≡ before.files.faults) (err : after.err ≡ before.err) where
       abbrev Of : (Outcome → Type 0) → Type 0
       Of P = OfOutcome (Doing c) before P
@@ -382,7 +400,7 @@ module _ (before after : Outside) (few : CanRise before) (out : after.out ≡ be
             files = d.2;
             out = same_told before.out after.out out;
             err = same_told before.err after.err err;
-          })) err))
+          })) valid err))
           (λ p. ⊎_elim
           (λ w. as_run (Doing c) s WriteFault before after w.0
           (in_write_fault files (inl (above before.outs.faults after.outs.faults few.1 w.1))

@@ -1,3 +1,4 @@
+pub mod Found
 pub mod JobPaths
 pub mod Outcome
 pub mod Phases

@@ -9,6 +9,7 @@ use Rattle.used_files.specs.Paths.{File}
 use Rattle.run_ends.specs.declared.status.Status.{Status}
 use Rattle.run_ends.specs.declared.status.Status.TheVariants.{Done, Diagnosed, Usage, ReadFault}
 use Rattle.run_ends.specs.declared.status.Status.TheVariants.{WriteFault, Memory}
+use Rattle.commands.specs.Found.{ShowsTheSameOf}
 use Rattle.commands.specs.Outcome.{Outcome, outcome}
 use Rattle.run_ends.specs.Outside.{Outside}
 use Rattle.commands.specs.JobPaths.{IsPathOfJob}
@@ -93,6 +94,9 @@ pub record Runs (job : Job) (status : Status) (before after : Outside) : Type 0 
   -- On Done and Diagnosed no call failed, and the outcome is met.
   pub met : (status ≡ Done) ⊎ (status ≡ Diagnosed) →
       Stood before after × OfOutcome job before (λ o. Meets o status before after)
+  -- On Done each question of a client that succeeds over the classes read has the same answer
+  -- over those whose layouts are the files of the outcome.
+  pub shows : status ≡ Done → IfSome before.files.held (ShowsTheSameOf job)
   -- Where no call failed, a job is done or diagnosed, as its outcome says.
   pub complete : usage_line job ≡ None → NoneFailed before after →
       (status ≡ Done) ⊎ ((status ≡ Diagnosed) ⊎ (status ≡ Memory))

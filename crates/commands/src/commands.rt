@@ -3,6 +3,7 @@ ghost use Rattle.std.specs.Prelude.{◌≡◌, map, string_bytes, IfOk, IfErr, I
 ghost use Rattle.command_line.specs.Words.{job};
 ghost use Rattle.command_line.specs.Seen.{command_seen};
 ghost use Rattle.commands.specs.Outcome.{outcome_of, made, diagnosed};
+ghost use Rattle.commands.specs.Found.{ReadsValid};
 ghost use Rattle.run_ends.specs.Outside.{outside, CanRise};
 ghost use Rattle.commands.specs.Runs.{Runs};
 ghost use Rattle.used_files.specs.Stops.{StopsOnly, FaultRises};
@@ -22,12 +23,15 @@ use used_files::Stop;
 fn make<F: Files>(alloc: Global, command: Command<'_>, files: &mut F) -> Result<Vec<OutFile>, Stop>
     ensures files { IfOk result (λ list. IfSome (F.held files.old) (λ held.
         outcome_of (command_seen command.entry) held ≡ made (map file_seen list.items))) }
+    ensures valid { IfOk result (λ _. IfSome (F.held files.old)
+        (ReadsValid (command_seen command.entry))) }
     ensures stops { IfErr result (λ stop. StopsOnly stop
         (λ path. IfSome (F.held files.old)
         (λ held. IsPathOf held (command_seen command.entry) path))
         (λ list. IfSome (F.held files.old) (λ held.
         outcome_of (command_seen command.entry) held ≡ diagnosed list))) }
     ensures faults { FaultRises result (F.faults files.old) (F.faults files.new) }
+    ensures held { F.held files.new ≡ F.held files.old }
 {
     match command {
         Command::Ijar { inputs, output } => strip_inputs(alloc, LIMITS, &inputs, output, files),
@@ -36,8 +40,9 @@ fn make<F: Files>(alloc: Global, command: Command<'_>, files: &mut F) -> Result<
 
 /// Does the job of the words, which stand behind the program's name.
 ///
-/// `Runs`, in `specs/Runs.antt`, says of each answer when it comes, and what was written and told.
-/// What is said of contents holds where the objects tell them.
+/// `Runs`, in `specs/Runs.antt`, says of each answer when it comes, what was written and told, and
+/// that clients find in what was written what they find in what was read. What is said of contents
+/// holds where the objects tell them.
 pub fn run<R: Threads + Sync, F: Files, O: Outs, S: Sink, G: Gate>(
     rt: &R,
     alloc: Global,
@@ -49,9 +54,11 @@ pub fn run<R: Threads + Sync, F: Files, O: Outs, S: Sink, G: Gate>(
     gate: &G,
 ) -> Status
     requires { CanRise (outside F.Files O.Outs S.Sink files.old outs.old out.old err.old) }
-    ensures { let before = outside F.Files O.Outs S.Sink files.old outs.old out.old err.old in
+    ensures runs { let before = outside F.Files O.Outs S.Sink files.old outs.old out.old err.old in
         let after = outside F.Files O.Outs S.Sink files.new outs.new out.new err.new in
         Runs (job (map string_bytes words.now)) result before after }
+    // Reading leaves the files as they are.
+    ensures held { F.held files.new ≡ F.held files.old }
 {
     let Ok(job) = job_of(alloc, words) else {
         return Status::Memory;

@@ -1,6 +1,7 @@
 //! The command `ijar`: class files to stripped class files.
 ghost use Rattle.std.specs.Prelude.{◌≡◌, [], IfOk, IfErr, IfSome, map};
 ghost use Rattle.commands.specs.Outcome.{files_of, ijar, made, diagnosed};
+ghost use Rattle.file_contents.specs.Valid.{AreValid};
 ghost use Rattle.used_files.specs.Parts.{now_of};
 ghost use Rattle.used_files.specs.Paths.{tree};
 ghost use Rattle.commands.specs.Phases.{first_phase, item_phases};
@@ -50,12 +51,15 @@ fn strip_roots<F: Files>(
         ≡ files_of output.now (items_of (tree held (map now_of inputs.now))))) }
     ensures fine { IfOk result (λ _. IfSome (F.held files.old) (λ held.
         first_phase limits (tree held (map now_of inputs.now)) ≡ [])) }
+    ensures valid { IfOk result (λ _. IfSome (F.held files.old) (λ held.
+        AreValid (items_of (tree held (map now_of inputs.now))))) }
     ensures stops { IfErr result (λ stop. StopsOnly stop
         (λ path. IfSome (F.held files.old)
         (λ held. IsRootOrUsed held (map now_of inputs.now) path))
         (λ list. IsFilled list × IfSome (F.held files.old) (λ held.
         first_phase limits (tree held (map now_of inputs.now)) ≡ list))) }
     ensures faults { FaultRises result (F.faults files.old) (F.faults files.new) }
+    ensures held { F.held files.new ≡ F.held files.old }
 {
     let items = read_items(alloc, limits, inputs, files)?;
     strip_items(alloc, output, items)
@@ -73,12 +77,15 @@ pub fn strip_inputs<F: Files>(
     ensures files { IfOk result (λ list. IfSome (F.held files.old) (λ held.
         ijar limits output.now (tree held (map now_of inputs.now))
         ≡ made (map file_seen list.items))) }
+    ensures valid { IfOk result (λ _. IfSome (F.held files.old) (λ held.
+        AreValid (items_of (tree held (map now_of inputs.now))))) }
     ensures stops { IfErr result (λ stop. StopsOnly stop
         (λ path. IfSome (F.held files.old)
         (λ held. IsRootOrUsed held (map now_of inputs.now) path))
         (λ list. IfSome (F.held files.old) (λ held.
         ijar limits output.now (tree held (map now_of inputs.now)) ≡ diagnosed list))) }
     ensures faults { FaultRises result (F.faults files.old) (F.faults files.new) }
+    ensures held { F.held files.new ≡ F.held files.old }
 {
     match strip_roots(alloc, limits, inputs, output, files) {
         Ok(list) => Ok(sort_files(alloc, list)?),

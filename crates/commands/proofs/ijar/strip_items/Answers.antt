@@ -16,7 +16,7 @@ write_classes-requires c =
     let from = c.in_ok-parts.parts.sources.items in
     let stripped = c.in_ok-stripped.stripped.items in
     let are = c.in_ok-parts.ensures.sources in
-    let left = c.in_ok-stripped.ensures ∙ ap strip_each c.in_ok-parts.ensures.classes in
+    let left = c.in_ok-stripped.ensures.each ∙ ap strip_each c.in_ok-parts.ensures.classes in
     ap length c.deref-2.ensures.value ∙ as_many_left items from stripped are left
     ∙ sym (ap length c.deref-3.ensures.value)
 
@@ -40,7 +40,7 @@ returns-in_err-stop_at-2-clause-stops c =
     let from = c.in_ok-parts.parts.sources.items in
     let stripped = c.in_ok-stripped.stripped.items in
     let are = c.in_ok-parts.ensures.sources in
-    let left = c.in_ok-stripped.ensures ∙ ap strip_each c.in_ok-parts.ensures.classes in
+    let left = c.in_ok-stripped.ensures.each ∙ ap strip_each c.in_ok-parts.ensures.classes in
     let zips : zip c.deref-2.result.now c.deref-3.result.now ≡ zip from stripped =
     ap (λ list. zip list c.deref-3.result.now) c.deref-2.ensures.value
     ∙ ap (zip from) c.deref-3.ensures.value in
@@ -63,7 +63,7 @@ returns-clause-files c =
     let from = c.in_ok-parts.parts.sources.items in
     let stripped = c.in_ok-stripped.stripped.items in
     let are = c.in_ok-parts.ensures.sources in
-    let left = c.in_ok-stripped.ensures ∙ ap strip_each c.in_ok-parts.ensures.classes in
+    let left = c.in_ok-stripped.ensures.each ∙ ap strip_each c.in_ok-parts.ensures.classes in
     let zips : zip c.deref-2.result.now c.deref-3.result.now ≡ zip from stripped =
     ap (λ list. zip list c.deref-3.result.now) c.deref-2.ensures.value
     ∙ ap (zip from) c.deref-3.ensures.value in
@@ -79,7 +79,7 @@ returns-clause-fine c =
     let from = c.in_ok-parts.parts.sources.items in
     let stripped = c.in_ok-stripped.stripped.items in
     let are = c.in_ok-parts.ensures.sources in
-    let left = c.in_ok-stripped.ensures ∙ ap strip_each c.in_ok-parts.ensures.classes in
+    let left = c.in_ok-stripped.ensures.each ∙ ap strip_each c.in_ok-parts.ensures.classes in
     let zips : zip c.deref-2.result.now c.deref-3.result.now ≡ zip from stripped =
     ap (λ list. zip list c.deref-3.result.now) c.deref-2.ensures.value
     ∙ ap (zip from) c.deref-3.ensures.value in

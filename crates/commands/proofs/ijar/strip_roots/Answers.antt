@@ -1,4 +1,4 @@
-use Rattle.std.proofs.Common.{◌≡◌, map, [], ap, ◌∙◌}
+use Rattle.std.proofs.Common.{◌≡◌, map, [], ap, subst, ◌∙◌}
 use Rattle.std.proofs.lemmas.Result.{IfOk-weaker, err_from_is_err_and}
 use Rattle.used_files.specs.Parts.{now_of}
 use Rattle.used_files.specs.Paths.{tree}
@@ -6,7 +6,9 @@ use Rattle.used_files.specs.Stops.{IsFilled}
 use Rattle.used_files.proofs.Options.{if_some, from_some, if_err_weaker, stops_weaker}
 use Rattle.commands.specs.Outcome.{files_of}
 use Rattle.commands.specs.Phases.{item_phases}
-use Rattle.commands.proofs.Phased.{first_files, none_faults}
+use Rattle.file_contents.specs.Contents.{items_of}
+use Rattle.file_contents.specs.Valid.{AreValid}
+use Rattle.commands.proofs.Phased.{first_files, none_faults, if_ok_always}
 use Rattle.commands.proofs.Stripped.{phase_of_items}
 use Rattle.commands.proofs.ijar.strip_roots.Goals as goal
 
@@ -66,3 +68,12 @@ returns-clause-faults g c =
     (λ list. IsFilled list × (item_phases c.in_ok-items.items.items ≡ list))
     (g.F.Files.faults c.args.files.now) (g.F.Files.faults c.read_items.new.files)
     c.strip_items.ensures.stops c.in_ok-items.ensures.faults
+
+pub returns-clause-valid : goal.returns-clause-valid
+returns-clause-valid g c =
+    let before = g.F.Files.held c.args.files.now in
+    let roots = map now_of c.args.inputs.now in
+    if_ok_always c.strip_items.result
+    (if_some before (λ held. AreValid (items_of (tree held roots))) (λ files is.
+    subst AreValid (from_some before _ files c.in_ok-items.ensures.items is)
+    c.in_ok-items.ensures.valid))
