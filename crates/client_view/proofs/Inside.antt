@@ -11,6 +11,7 @@ use Rattle.class_views.specs.View.{View, view_of_desc}
 use Rattle.class_views.specs.World.{ring_of, supertypes}
 use Rattle.client_view.specs.Indexed.{IsIndexed}
 use Rattle.client_view.specs.Numbers.{views, number_of}
+use Rattle.client_view.specs.Refusals.{IsFree}
 use Rattle.client_view.specs.declared.world.ClientWorld.TheInside.{Inside}
 use Rattle.client_view.proofs.Graphs.{reach_there}
 use Rattle.client_view.proofs.Numbered.{number_within}
@@ -23,6 +24,11 @@ pub number_small : (classes : List ClassDesc) (name : List ℕ) (n : ℕ) →
     Some n ≡ number_of (views classes) name → n < length classes
 number_small classes name n e =
     let few = number_within (views classes) name n (sym e) in
+    let long = seen_length classes in omega (arith, few, long)
+
+pub free_small : (classes : List ClassDesc) (n : ℕ) → IsFree (views classes) n → n < length classes
+free_small classes n free =
+    let few = slice_get_within (views classes) n free.class free.there in
     let long = seen_length classes in omega (arith, few, long)
 
 module _ (w : Inside) (i : IsIndexed w) where

@@ -1,8 +1,10 @@
 -- What a world keeps beside its classes.
-use Rattle.std.specs.Prelude.{◌≡◌, ◌<◌, ◌^◌, ℕ, List, [], length, slice_get, slice_index_or}
+use Rattle.std.specs.Prelude.{◌≡◌, ◌≤◌, ◌<◌, ◌^◌, ℕ, List, [], length, slice_get, slice_index_or}
 use Rattle.std.specs.Prelude.{Option, Some, None, option_to_list}
+use Rattle.std.specs.Vec.{vec_capacity}
 use Rattle.std.specs.HashMap.{get}
 use Rattle.java_names.specs.Names.{is_text}
+use Rattle.class_desc.specs.ClassFile.{object_name}
 use Rattle.class_desc.specs.declared.class.ClassDesc.{ClassDesc}
 use Rattle.class_views.specs.View.{View}
 use Rattle.class_views.specs.World.{supertypes}
@@ -37,3 +39,6 @@ pub record IsIndexed (w : Inside) : Type 0 where
   pub superclasses_are : IsGraphOf (views w.classes.items) superclasses w.superclasses
   pub rings : AreRings w.supertypes w.rings.items
   pub room : w.search ≡ record { classes = length w.classes.items; list = [] }
+  pub object : w.object ≡ number_of (views w.classes.items) object_name
+  pub candidates : w.candidates.items ≡ []
+  pub candidates_room : length w.classes.items ≤ vec_capacity w.candidates

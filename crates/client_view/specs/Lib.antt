@@ -3,3 +3,4 @@ pub mod Members
 pub mod Numbers
 pub mod Refusals
 pub mod Replies
+pub mod Sole

@@ -1,7 +1,9 @@
 -- What a class declares, by the number of the class.
 use Rattle.std.specs.Prelude.{◌≡◌, ℕ, Bool, List, slice_get, Option, Some, None, option_map}
 use Rattle.std.specs.Prelude.{is_some}
-use Rattle.std.specs.Prelude.{option_and_then, if◌then◌else◌}
+use Rattle.std.specs.Prelude.{option_and_then, find, ◌&&◌, if◌then◌else◌}
+use Rattle.java_names.specs.Names.{is_text}
+use Rattle.class_views.specs.Query.{is_final_field}
 use Rattle.class_views.specs.View.{View, MemberView}
 use Rattle.class_views.specs.World.{World}
 use Rattle.class_views.specs.Flags.{access_of}
@@ -57,3 +59,13 @@ replied world client c met =
     if may_access world client c.name (access_of met.flags)
     then reply.Found met.at
     else reply.NotAccessible met.at.class
+
+-- ---- what a class itself declares
+
+-- the first final field of a name that has a constant
+abbrev pub constant_in_class : List ℕ → View → Option MemberView
+constant_in_class name c = find (λ m. is_final_field name m && is_some m.constant) c.fields
+
+-- the first field of a name
+abbrev pub field_named_in : List ℕ → View → Option MemberView
+field_named_in name c = find (λ m. is_text m.name name) c.fields

@@ -6,6 +6,7 @@ use Rattle.class_views.specs.Access.{Client}
 use Rattle.class_views.specs.Query.{Query, Answer, NotFound, NotAccessible, Cycle, ask, answer_in}
 use Rattle.class_views.specs.Query.{class_asked, asks_beyond}
 use Rattle.client_view.specs.Replies.{Tells}
+use Rattle.client_view.specs.declared.reply.MemberAt.{MemberAt}
 use Rattle.client_view.specs.declared.reply.Reply.{Reply}
 use Rattle.client_view.specs.declared.reply.Reply.TheVariants as reply
 use Rattle.client_view.specs.declared.refusal.Refusal.{Refusal}
@@ -47,3 +48,12 @@ abbrev pub Starts : World → Client → List ℕ → Result ℕ Refusal → Typ
 Starts world client name (Ok number) = Enters world client name number
 Starts world client name (Err refusal) =
     (query : Query) → GoesBeyond name query → Refuses world refusal (ask world client query)
+
+-- the class of the member that is found
+abbrev pub class_reply : Reply MemberAt → Reply ℕ
+class_reply (reply.Found at) = reply.Found at.class
+class_reply reply.NotFound = reply.NotFound
+class_reply (reply.NotAccessible declarer) = reply.NotAccessible declarer
+class_reply (reply.Ambiguous first second) = reply.Ambiguous first second
+class_reply reply.WrongKind = reply.WrongKind
+class_reply (reply.Cycle at) = reply.Cycle at

@@ -8,3 +8,14 @@ pub struct Client {
     /// The binary name of its superclass.
     pub super_name: Option<Text>,
 }
+
+/// What annotations are asked of.
+#[derive(Drop)]
+pub enum Part {
+    /// The class.
+    Whole,
+    /// The first field of the name that the class declares.
+    FieldPart(Text),
+    /// The first method of the name and descriptor that the class declares.
+    MethodPart { name: Text, descriptor: Text },
+}

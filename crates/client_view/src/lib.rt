@@ -10,9 +10,10 @@ mod package;
 mod refusal;
 mod refused;
 mod reply;
+mod superinterfaces;
 mod world;
 
-pub use asked::Client;
+pub use asked::{Client, Part};
 pub use refused::ViewErr;
 pub use reply::{MemberAt, Reply};
 pub use world::ClientWorld;

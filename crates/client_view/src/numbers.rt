@@ -5,6 +5,7 @@ ghost use Rattle.std.specs.Prelude.{length, option_to_list};
 ghost use Rattle.std.specs.List.{filter_map};
 ghost use Rattle.std.specs.HashMap.{get};
 ghost use Rattle.java_names.specs.Names.{is_text};
+ghost use Rattle.class_desc.specs.ClassFile.{object_name};
 ghost use Rattle.class_views.specs.World.{World, supertypes as supertypes_of};
 ghost use Rattle.class_views.specs.View.{view_of_desc};
 ghost use Rattle.client_view.specs.Indexed.{superclasses as superclasses_of};
@@ -18,6 +19,9 @@ use hdr_core::{Memory, Text};
 use reachability::Rows;
 use std::alloc::Global;
 use std::collections::HashMap;
+
+/// The name of the class that has no superclass.
+const OBJECT: &[u8] = b"java/lang/Object";
 
 /// Notes the number of a name that isn't there yet.
 fn note(
@@ -56,6 +60,14 @@ pub fn numbers_of(alloc: Global, classes: &[ClassDesc]) -> Result<HashMap<Text, 
         note(alloc, &mut numbers, &class.name, index as u32)?;
     }
     Ok(numbers)
+}
+
+/// The number of java/lang/Object, if the class is there.
+pub fn object_number(alloc: Global, numbers: &HashMap<Text, u32>) -> Result<Option<u32>, Memory>
+    ensures { IfOk result (λ object. object ≡ get is_text numbers.now object_name) }
+{
+    let name = Text::of(alloc, OBJECT)?;
+    Ok(numbers.get(&name).copied())
 }
 
 /// Puts the number of a name behind the others, if the class is there.

@@ -1,3 +1,6 @@
+ghost use Rattle.std.specs.Prelude.{◌≡◌};
+ghost use Rattle.client_view.specs.Refusals.{class_reply};
+
 /// What a question comes to. Numbers are places in the world's list of classes.
 #[derive(Clone, Copy)]
 pub enum Reply<T> {
@@ -11,6 +14,22 @@ pub enum Reply<T> {
     WrongKind,
     /// The least class that the named one reaches, or is, and that reaches itself.
     Cycle { at: u32 },
+}
+
+impl Reply<MemberAt> {
+    /// The same of the member's class.
+    pub(crate) fn class(self) -> Reply<u32>
+        ensures { result ≡ class_reply self }
+    {
+        match self {
+            Reply::Found(at) => Reply::Found(at.class),
+            Reply::NotFound => Reply::NotFound,
+            Reply::NotAccessible { declarer } => Reply::NotAccessible { declarer },
+            Reply::Ambiguous { first, second } => Reply::Ambiguous { first, second },
+            Reply::WrongKind => Reply::WrongKind,
+            Reply::Cycle { at } => Reply::Cycle { at },
+        }
+    }
 }
 
 /// A field or a method: its class, and its place among the fields or methods of that.

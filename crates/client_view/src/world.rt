@@ -11,11 +11,14 @@ ghost use Rattle.client_view.specs.Replies.{client_seen, Says, IsClassFound};
 ghost use Rattle.client_view.specs.declared.refused.ViewErr.TheVariants.{Repeated};
 
 mod access;
+mod annotations;
+mod constants;
 mod fields;
+mod methods;
 
 use crate::asked::Client;
 use crate::flags::{PUBLIC, has_flag};
-use crate::numbers::{numbers_of, superclass_rows, supertype_rows};
+use crate::numbers::{numbers_of, object_number, superclass_rows, supertype_rows};
 use crate::package::is_in_package;
 use crate::refusal::Refusal;
 use crate::refused::ViewErr;
@@ -39,6 +42,10 @@ pub struct ClientWorld {
     /// For each class the least one that it reaches, or is, and that reaches itself.
     rings: Vec<Option<u32>>,
     search: Search,
+    /// The number of java/lang/Object.
+    object: Option<u32>,
+    /// Room for all classes; empty between questions.
+    candidates: Vec<u32>,
 }
 
 impl Model for ClientWorld {
@@ -72,6 +79,8 @@ impl ClientWorld {
         let superclasses = superclass_rows(alloc, &numbers, &classes)?;
         let rings = least_rings(alloc, &supertypes)?;
         let search = Search::new(alloc, classes.len())?;
+        let object = object_number(alloc, &numbers)?;
+        let candidates = Vec::with_capacity(alloc, classes.len())?;
         Ok(ClientWorld {
             classes,
             numbers,
@@ -79,6 +88,8 @@ impl ClientWorld {
             superclasses,
             rings,
             search,
+            object,
+            candidates,
         })
     }
 

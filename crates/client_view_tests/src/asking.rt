@@ -1,7 +1,9 @@
 //! Each question of the tables, put to a world.
 use crate::building::{Bytes, ClassRow, ClientRow, client, repeat_of, text, world};
+use crate::constants::{ANNOTATIONS, CONSTANTS};
 use crate::fields::{FIELDS, REPEATS, RINGS, TYPES};
-use client_view::{Client, ClientWorld, MemberAt, Reply};
+use crate::methods::{CLASSES, INTERFACES};
+use client_view::{Client, ClientWorld, MemberAt, Part, Reply};
 use hdr_core::Text;
 use std::alloc::Global;
 use std::process::Abort;
@@ -15,8 +17,17 @@ pub enum Asked {
     Class(Bytes),
     Supers(Bytes),
     Field(Bytes, Bytes, Bytes),
+    Method(Bytes, Bytes, Bytes),
+    InterfaceMethod(Bytes, Bytes, Bytes),
     /// The field x of type int.
     FieldX(Bytes),
+    /// The method m without parameters and result.
+    MethodM(Bytes),
+    InterfaceM(Bytes),
+    Constant(Bytes, Bytes),
+    Annotations(Bytes),
+    FieldAnnotations(Bytes, Bytes),
+    MethodAnnotations(Bytes, Bytes, Bytes),
 }
 
 /// What is to be found, classes and members by their places.
@@ -26,6 +37,7 @@ pub enum Wanted {
     Member(u32, u32),
     NotFound,
     NotAccessible(u32),
+    WrongKind,
     Cycle(u32),
 }
 
@@ -49,6 +61,7 @@ fn is_member(reply: Reply<MemberAt>, wanted: Wanted) -> bool {
     match (reply, wanted) {
         (Reply::Found(at), Wanted::Member(class, index)) => at.class == class && at.index == index,
         (Reply::NotFound, Wanted::NotFound) => true,
+        (Reply::WrongKind, Wanted::WrongKind) => true,
         (Reply::NotAccessible { declarer }, Wanted::NotAccessible(other)) => declarer == other,
         (Reply::Cycle { at }, Wanted::Cycle(other)) => at == other,
         _ => false,
@@ -80,9 +93,51 @@ fn agrees(
             let (class, name, descriptor) = names(rt, alloc, class, name, descriptor);
             is_member(world.field(client, &class, &name, &descriptor), wanted)
         }
+        Asked::Method(class, name, descriptor) => {
+            let (class, name, descriptor) = names(rt, alloc, class, name, descriptor);
+            is_member(world.method(client, &class, &name, &descriptor), wanted)
+        }
+        Asked::InterfaceMethod(class, name, descriptor) => {
+            let (class, name, descriptor) = names(rt, alloc, class, name, descriptor);
+            is_member(
+                world.interface_method(client, &class, &name, &descriptor),
+                wanted,
+            )
+        }
         Asked::FieldX(class) => {
             let (class, name, descriptor) = names(rt, alloc, class, b"x", b"I");
             is_member(world.field(client, &class, &name, &descriptor), wanted)
+        }
+        Asked::MethodM(class) => {
+            let (class, name, descriptor) = names(rt, alloc, class, b"m", b"()V");
+            is_member(world.method(client, &class, &name, &descriptor), wanted)
+        }
+        Asked::InterfaceM(class) => {
+            let (class, name, descriptor) = names(rt, alloc, class, b"m", b"()V");
+            is_member(
+                world.interface_method(client, &class, &name, &descriptor),
+                wanted,
+            )
+        }
+        Asked::Constant(class, name) => {
+            let (class, name) = (text(rt, alloc, class), text(rt, alloc, name));
+            is_member(world.constant(client, &class, &name), wanted)
+        }
+        Asked::Annotations(class) => {
+            let class = text(rt, alloc, class);
+            is_class(world.annotations(client, &class, &Part::Whole), wanted)
+        }
+        Asked::FieldAnnotations(class, name) => {
+            let (class, part) = (
+                text(rt, alloc, class),
+                Part::FieldPart(text(rt, alloc, name)),
+            );
+            is_class(world.annotations(client, &class, &part), wanted)
+        }
+        Asked::MethodAnnotations(class, name, descriptor) => {
+            let (class, name, descriptor) = names(rt, alloc, class, name, descriptor);
+            let part = Part::MethodPart { name, descriptor };
+            is_class(world.annotations(client, &class, &part), wanted)
         }
     }
 }
@@ -119,4 +174,24 @@ fn repeats_are_told(rt: HostRuntime) {
     for (names, wanted) in REPEATS {
         assert!(rt; repeat_of(&rt, rt.alloc(), names) == *wanted);
     }
+}
+
+#[test]
+fn superinterface_methods_are_found(rt: HostRuntime) {
+    ask_all(&rt, rt.alloc(), INTERFACES);
+}
+
+#[test]
+fn class_methods_are_found(rt: HostRuntime) {
+    ask_all(&rt, rt.alloc(), CLASSES);
+}
+
+#[test]
+fn constants_are_found(rt: HostRuntime) {
+    ask_all(&rt, rt.alloc(), CONSTANTS);
+}
+
+#[test]
+fn annotations_are_found(rt: HostRuntime) {
+    ask_all(&rt, rt.alloc(), ANNOTATIONS);
 }

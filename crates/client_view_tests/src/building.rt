@@ -2,7 +2,7 @@
 ghost use Rattle.std.specs.Prelude.{◌≡◌, true};
 ghost use Rattle.client_view.specs.Indexed.{HaveFewMembers};
 
-use class_desc::{ClassDesc, FieldDesc, MethodDesc};
+use class_desc::{Attr, ClassDesc, FieldDesc, MethodDesc, Value};
 use client_view::{Client, ClientWorld, ViewErr};
 use hdr_core::{List, Text};
 use std::alloc::Global;
@@ -12,6 +12,9 @@ pub type Bytes = &'static [u8];
 
 /// Flags, name and descriptor.
 pub type MemberRow = (u16, Bytes, Bytes);
+
+/// Beside the flags of a field's row: the field has a constant. No field has such a flag.
+pub const HELD: u16 = 0x8000;
 
 /// Flags, name, superclass, superinterfaces, fields and methods.
 pub type ClassRow = (
@@ -44,14 +47,37 @@ pub fn client(rt: &impl Abort, alloc: Global, row: ClientRow) -> Client {
     }
 }
 
+/// A constant for a field of the descriptor (JVMS table 4.7.2-A).
+fn constant(rt: &impl Abort, alloc: Global, descriptor: &[u8]) -> Value {
+    match descriptor {
+        b"J" => Value::Long(7),
+        b"F" => Value::Raw32(0x40E0_0000),
+        b"D" => Value::Raw64(0x401C_0000_0000_0000),
+        b"I" => Value::Integer(7),
+        _ => Value::Str(text(rt, alloc, b"seven")),
+    }
+}
+
+fn field_attributes(rt: &impl Abort, alloc: Global, row: MemberRow) -> List<Attr> {
+    let (flags, _, descriptor) = row;
+    let mut attributes = Vec::new(alloc);
+    if flags & HELD != 0 {
+        let value = constant(rt, alloc, descriptor);
+        attributes
+            .push(Attr::ConstantValue(value))
+            .expect(rt, "memory");
+    }
+    List::of(attributes)
+}
+
 fn fields(rt: &impl Abort, alloc: Global, rows: &[MemberRow]) -> List<FieldDesc> {
     let mut fields = Vec::new(alloc);
     for (flags, name, descriptor) in rows {
         let field = FieldDesc {
-            flags: *flags,
+            flags: *flags & !HELD,
             name: text(rt, alloc, name),
             descriptor: text(rt, alloc, descriptor),
-            attrs: List::of(Vec::new(alloc)),
+            attrs: field_attributes(rt, alloc, (*flags, *name, *descriptor)),
         };
         fields.push(field).expect(rt, "memory");
     }

@@ -204,6 +204,14 @@ const FIELD_9: Example = Example {
         (0x0021, b"p/C", Some(b"p/B"), &[], &[], &[]),
         (0x0021, b"p/R", Some(b"p/S"), &[], &[], &[]),
         (0x0021, b"p/S", Some(b"p/R"), &[], &[], &[]),
+        (
+            0x0021,
+            b"p/D",
+            Some(b"p/B"),
+            &[],
+            &[(0x0004, b"x", b"I")],
+            &[],
+        ),
     ],
     rows: &[
         (STRANGER, Asked::FieldX(b"p/B"), Wanted::NotAccessible(0)),
@@ -217,6 +225,21 @@ const FIELD_9: Example = Example {
             (b"", Some(b"p/B")),
             Asked::FieldX(b"p/C"),
             Wanted::Member(0, 0),
+        ),
+        (
+            (b"", Some(b"p/B")),
+            Asked::FieldX(b"p/D"),
+            Wanted::NotAccessible(5),
+        ),
+        (
+            (b"", Some(b"p/R")),
+            Asked::FieldX(b"p/C"),
+            Wanted::NotAccessible(0),
+        ),
+        (
+            (b"", Some(b"p/Gone")),
+            Asked::FieldX(b"p/C"),
+            Wanted::NotAccessible(0),
         ),
     ],
 };
@@ -325,6 +348,12 @@ const RING_4: Example = Example {
     rows: &[
         (STRANGER, Asked::FieldX(b"p/H"), Wanted::NotAccessible(0)),
         ((b"p", None), Asked::FieldX(b"p/H"), Wanted::Cycle(0)),
+        (STRANGER, Asked::MethodM(b"I"), Wanted::Cycle(1)),
+        ((b"p", None), Asked::InterfaceM(b"p/H"), Wanted::Cycle(0)),
+        (STRANGER, Asked::MethodM(b"N"), Wanted::WrongKind),
+        (STRANGER, Asked::InterfaceM(b"N"), Wanted::Member(2, 0)),
+        (STRANGER, Asked::InterfaceM(b"C"), Wanted::WrongKind),
+        (STRANGER, Asked::MethodM(b"C"), Wanted::Member(3, 0)),
     ],
 };
 

@@ -7,4 +7,8 @@ mod asking;
 #[cfg(test)]
 mod building;
 #[cfg(test)]
+mod constants;
+#[cfg(test)]
 mod fields;
+#[cfg(test)]
+mod methods;

@@ -4,6 +4,7 @@ use Rattle.std.specs.HashMap.{get}
 use Rattle.std.proofs.lemmas.List.{length-map}
 use Rattle.std.proofs.lemmas.Result.{err_from_is_err_and}
 use Rattle.java_names.specs.Names.{is_text}
+use Rattle.class_desc.specs.ClassFile.{object_name}
 use Rattle.class_desc.specs.declared.class.ClassDesc.{ClassDesc}
 use Rattle.class_views.specs.View.{view_of_desc}
 use Rattle.class_views.specs.World.{supertypes}
@@ -69,6 +70,13 @@ invariant_of-result c =
           let same = ap length c.deref.ensures.value in
           let e : c.len.result ≡ length c.args.classes.items =
           omega (arith, counted, lent, same) in e);
+      object = c.in_ok-object.ensures ∙ numbers object_name;
+      candidates = c.in_ok-candidates.ensures.items;
+      candidates_room =
+          let counted = c.len-2.ensures in let lent = c.deref.ensures.len in
+          let same = ap length c.deref.ensures.value in
+          let room = c.in_ok-candidates.ensures.exact in
+          omega (arith, counted, lent, same, room);
     }
 
 pub returns-clause-apart : goal.returns-clause-apart
