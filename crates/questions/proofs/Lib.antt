@@ -1,0 +1,4 @@
+pub mod Asked
+pub mod Each
+pub mod Trimmed
+pub mod Words
