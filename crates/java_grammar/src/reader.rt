@@ -45,6 +45,16 @@ impl<'a> Reader<'a> {
         }
     }
 
+    /// A reader of the same tokens, which moves by itself.
+    pub fn fork(&self) -> Reader<'a>
+        ensures { result ≡ self.now }
+    {
+        Reader {
+            rest: self.rest,
+            taken: self.taken,
+        }
+    }
+
     pub fn is_at_end(&self) -> bool
         ensures { result ≡ is_end self.now }
     {
