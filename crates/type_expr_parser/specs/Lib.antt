@@ -1,0 +1,12 @@
+pub mod Signs
+pub mod Reading
+pub mod Names
+pub mod Literals
+pub mod Levels
+pub mod Expressions
+pub mod Annotations
+pub mod Types
+pub mod Calls
+pub mod Follows
+pub mod Laws
+pub mod Pairing
