@@ -9,6 +9,8 @@ mod copies;
 #[cfg(test)]
 mod diagnostics;
 #[cfg(test)]
+mod errors;
+#[cfg(test)]
 mod folders;
 #[cfg(test)]
 mod in_memory;

@@ -72,7 +72,7 @@ fn unsupported<T>() -> io::Result<T> {
     Err(Error::from(ErrorKind::Unsupported))
 }
 
-/// A system in which the file is at every path, and no folder can be made.
+/// A system in which the file is at every path, each may be renamed, and no folder can be made.
 #[derive(Clone, Copy)]
 struct SlowSystem {
     alloc: Global,
@@ -101,11 +101,11 @@ impl rt::Files for SlowSystem {
     }
 
     fn metadata(&self, _path: &str) -> io::Result<Metadata> {
-        Ok(Metadata::of_file(self.file.held.len() as u64))
+        unsupported()
     }
 
     fn symlink_metadata(&self, _path: &str) -> io::Result<Metadata> {
-        unsupported()
+        Ok(Metadata::of_file(self.file.held.len() as u64))
     }
 
     fn copy(&self, _from: &str, _to: &str) -> io::Result<u64> {
@@ -113,7 +113,7 @@ impl rt::Files for SlowSystem {
     }
 
     fn rename(&self, _from: &str, _to: &str) -> io::Result<()> {
-        unsupported()
+        Ok(())
     }
 
     fn remove_file(&self, _path: &str) -> io::Result<()> {
@@ -169,6 +169,8 @@ const PUTS: &[Put] = &[
     (b"seven", b"seventy", b"seventy", Ok(())),
     // a write that is refused
     (b"seventy", b"sixteen", b"sixty", Err(CallErr::Failed)),
+    // a flush that is refused, behind writes that are not
+    (b"seventy", b"six", b"sixteen", Err(CallErr::Failed)),
 ];
 
 #[test]

@@ -2,12 +2,12 @@
 use Rattle.std.specs.Prelude.{◌≡◌, ◌≢◌, ℕ, ◌+◌, ◌-◌, ◌^◌, ◌≤◌, min, List, ◌++◌, Option, Some}
 use Rattle.std.specs.Prelude.{None, Result, Err, IsErrOf}
 
--- A count of 64 bits rose. It stands still at its end.
+-- A count of 64 bits rose by one. It stands still at its end.
 abbrev pub Rose : ℕ → ℕ → Type 0
-Rose before after = min (before + 1) (2 ^ 64 - 1) ≤ after
+Rose before after = after ≡ min (before + 1) (2 ^ 64 - 1)
 
--- The object's count of faults rose where the call answered this refusal, and after any other
--- answer it is what it was.
+-- The object's count of faults rose by one where the call answered this refusal, so exactly one
+-- of the calls that it made failed; after any other answer the count is what it was, so none did.
 pub record CountsFault {S T E : Type 0} (faults : S → ℕ) (before after : S)
     (result : Result T E) (refusal : E) : Type 0 where
   pub failed : IsErrOf result refusal → Rose (faults before) (faults after)

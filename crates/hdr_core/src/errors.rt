@@ -1,23 +1,30 @@
+use crate::files::LONGEST_FILE;
 use crate::memory::Memory;
 use std::alloc::{AllocError, AllocFailed};
+use thiserror::Error;
 
 /// Why a call to the outside world was refused.
-#[derive(Clone, Copy, Debug, PartialEq, Eq)]
+#[derive(Clone, Copy, Debug, PartialEq, Eq, Error)]
 pub enum CallErr {
-    /// The outside world did not do it. The count of faults of the object that was called rose.
+    /// The outside world did not do it. The count of faults of the object that was called rose by
+    /// one.
+    #[error("input or output failed")]
     Failed,
-    /// Want of memory.
+    #[error("out of memory")]
     Memory,
 }
 
 /// Why a file was not read.
-#[derive(Clone, Copy, Debug, PartialEq, Eq)]
+#[derive(Clone, Copy, Debug, PartialEq, Eq, Error)]
 pub enum FileErr {
-    /// The outside world did not do it. The count of faults of the object that was called rose.
+    /// The outside world did not do it. The count of faults of the object that was called rose by
+    /// one.
+    #[error("input failed")]
     Failed,
-    /// Want of memory.
+    #[error("out of memory")]
     Memory,
     /// The file is longer than [`LONGEST_FILE`](crate::LONGEST_FILE) bytes.
+    #[error("file is longer than {} bytes", LONGEST_FILE)]
     TooLong,
 }
 

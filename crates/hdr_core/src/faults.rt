@@ -1,4 +1,5 @@
-ghost use Rattle.std.specs.Prelude.{◌≡◌, ◌≢◌, ◌≤◌, ◌<◌, ◌^◌};
+ghost use Rattle.std.specs.Prelude.{◌≡◌, ◌≢◌, ◌≤◌, ◌<◌, ◌^◌, ◌↔◌};
+ghost use Rattle.std.specs.IoError.{error_kind};
 
 use crate::errors::CallErr;
 use std::io::{Error, ErrorKind};
@@ -20,8 +21,10 @@ impl Faults {
         Faults { count: 0 }
     }
 
-    /// What a call answers after an error of the system. Each but want of memory is counted.
+    /// What a call answers after an error of the system. Each but that memory ran out is counted.
     pub(crate) fn refuse(&mut self, error: &Error) -> CallErr
+        ensures memory { (result ≡ CallErr.Memory)
+            ↔ (error_kind error.now ≡ ErrorKind.OutOfMemory) }
         ensures failed { result ≡ CallErr.Failed
             → Rose (fault_count self.old) (fault_count self.new) }
         ensures kept { result ≢ CallErr.Failed → fault_count self.new ≡ fault_count self.old }

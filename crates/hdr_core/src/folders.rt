@@ -1,17 +1,15 @@
 ghost use Rattle.std.specs.Prelude.{◌≡◌, ℕ, ◌≤◌, ◌<◌, ◌+◌, List, Option, None, length, nat_le};
-ghost use Rattle.std.specs.Prelude.{vec_len, IfOk, IfSome, IsTrue, OnOk};
-ghost use Rattle.std.specs.Io.KnownBytes.{Appends, Consumes, IsAtEnd};
+ghost use Rattle.std.specs.Prelude.{vec_len, IfOk, IfSome, OnOk};
+ghost use Rattle.std.specs.Io.KnownBytes.{Consumes, IsAtEnd};
 ghost use Rattle.hdr_core.specs.Faults.{fault_count};
 ghost use Rattle.hdr_core.specs.Readings.{IsRead};
 
 use crate::errors::{CallErr, FileErr};
 use crate::faults::Faults;
 use crate::files::{Files, LONGEST_FILE};
-use crate::outs::Outs;
 use std::alloc::{AllocError, Global};
 use std::fs::{self, File, FileType};
-use std::io::{self, Error, ErrorKind, Read, Write};
-use std::path::Path;
+use std::io::{self, Error, ErrorKind, Read};
 use std::rt;
 
 // How many entries may be met below a root.
@@ -19,9 +17,6 @@ const MOST_ENTRIES: usize = 4_194_304;
 
 // How many bytes are asked for at once.
 const PIECE: usize = 65_536;
-
-// How many bytes are compared at once. They lie on the stack.
-const COMPARED: usize = 4_096;
 
 /// The files of the system's folders. It doesn't say what they hold.
 ///
@@ -204,102 +199,4 @@ fn read_piece<R: Read>(file: &mut R, buffer: &mut [u8], into: &mut Vec<u8>) -> i
     let count = file.read(buffer)?;
     into.extend_from_slice(&buffer[..count])?;
     Ok(count)
-}
-
-/// Writes files into the system's folders, and makes the folders that a path needs. It doesn't say
-/// what was written.
-///
-/// A file that has the same bytes already is left alone, so that its time stays.
-#[derive(Drop)]
-pub struct DirOuts<R> {
-    rt: R,
-    faults: Faults,
-}
-
-impl<R: rt::Files + Drop> DirOuts<R> {
-    pub fn of(rt: R) -> DirOuts<R>
-        ensures { ⟦<DirOuts<R> as Outs>⟧.faults result ≡ 0 }
-    {
-        DirOuts {
-            rt,
-            faults: Faults::none(),
-        }
-    }
-}
-
-impl<R: rt::Files + Drop> Outs for DirOuts<R> {
-    ghost written = { λ _. None };
-
-    ghost faults = { λ outs. fault_count outs.faults };
-
-    fn put(&mut self, path: &str, bytes: &[u8]) -> Result<(), CallErr> {
-        match write_file(&self.rt, path, bytes) {
-            Ok(()) => Ok(()),
-            Err(error) => Err(self.faults.refuse(&error)),
-        }
-    }
-}
-
-fn write_file<R: rt::Files>(rt: &R, path: &str, bytes: &[u8]) -> io::Result<()> {
-    if holds_bytes(rt, path, bytes) {
-        return Ok(());
-    }
-    let mut file = create_file(rt, path)?;
-    write_bytes(&mut file, bytes)
-}
-
-// Whether a file can be read and has these bytes. One of another length is not opened.
-fn holds_bytes<R: rt::Files>(rt: &R, path: &str, bytes: &[u8]) -> bool {
-    match fs::metadata(rt, path) {
-        Ok(about) if about.is_file() && about.len() == bytes.len() as u64 => {}
-        _ => return false,
-    }
-    match File::open(rt, path) {
-        Ok(file) => gives_bytes(file, bytes),
-        Err(_) => false,
-    }
-}
-
-// Whether readings give these bytes and then end. Where one fails, they don't.
-fn gives_bytes<R: Read + Drop>(mut file: R, bytes: &[u8]) -> bool
-    ensures { IsTrue result → IfSome (R.remaining file) (λ held. held ≡ bytes.now) }
-{
-    let mut buffer = [0; COMPARED];
-    let mut at = 0;
-    loop {
-        let Ok(count) = file.read(&mut buffer) else {
-            return false;
-        };
-        if count == 0 {
-            return at == bytes.len();
-        }
-        if !bytes[at..].starts_with(&buffer[..count]) {
-            return false;
-        }
-        at += count;
-    }
-}
-
-// A new file. The folders that its path needs are made only where there is no file without.
-fn create_file<R: rt::Files>(rt: &R, path: &str) -> io::Result<R::File> {
-    if let Ok(file) = File::create(rt, path) {
-        return Ok(file);
-    }
-    if let Some(folder) = Path::new(path).parent() {
-        fs::create_dir_all(rt, folder)?;
-    }
-    File::create(rt, path)
-}
-
-fn write_bytes<W: Write>(file: &mut W, bytes: &[u8]) -> io::Result<()>
-    ensures { OnOk result (Appends (W.contents file.old) (W.contents file.new) bytes.now) }
-{
-    let mut at = 0;
-    while at < bytes.len() {
-        match file.write(&bytes[at..])? {
-            0 => return Err(Error::from(ErrorKind::WriteZero)),
-            count => at += count,
-        }
-    }
-    file.flush()
 }

@@ -1,7 +1,9 @@
 use std::alloc::{AllocError, AllocFailed};
+use thiserror::Error;
 
-/// Want of memory. What was lent for reading is as it was.
-#[derive(Clone, Copy, Debug, PartialEq, Eq)]
+/// Out of memory. What was lent for reading is as it was.
+#[derive(Clone, Copy, Debug, PartialEq, Eq, Error)]
+#[error("out of memory")]
 pub struct Memory;
 
 impl From<AllocError> for Memory {

@@ -1,4 +1,4 @@
-ghost use Rattle.std.specs.Prelude.{◌≡◌, ◌<◌, ◌≤◌, ◌++◌, [], ◌∷◌, OnOk, OnErr, length};
+ghost use Rattle.std.specs.Prelude.{◌≡◌, ◌<◌, ◌≤◌, ◌++◌, [], ◌∷◌, IfOk, OnOk, OnErr, length};
 ghost use Rattle.std.specs.Prelude.{slice_index_or};
 ghost use Rattle.reachability.specs.Flat.{rows_from, AreLaidOut, IsBetween};
 
@@ -34,6 +34,16 @@ impl Rows {
             numbers: Vec::new(alloc),
             ends: Vec::new(alloc),
         }
+    }
+
+    /// No lists, and room for so many with so many numbers in all.
+    pub fn with_capacity(alloc: Global, lists: usize, numbers: usize) -> Result<Rows, Memory>
+        ensures { IfOk result (λ rows. rows ≡ []) }
+    {
+        Ok(Rows {
+            numbers: Vec::with_capacity(alloc, numbers)?,
+            ends: Vec::with_capacity(alloc, lists)?,
+        })
     }
 
     /// How many lists there are.

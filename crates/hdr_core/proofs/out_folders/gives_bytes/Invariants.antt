@@ -1,6 +1,6 @@
 use Rattle.std.proofs.Common.{length, take, ◌≤◌, ◌-◌}
 use Rattle.std.specs.Io.KnownBytes.{Consumes}
-use Rattle.hdr_core.proofs.folders.gives_bytes.Given as goal
+use Rattle.hdr_core.proofs.out_folders.gives_bytes.Given as goal
 
 -- so far the readings gave the bytes before `at`
 abbrev pub invariant-loop-count : goal.invariant-loop-count

@@ -1,7 +1,7 @@
 use Rattle.std.proofs.Common.{◌≡◌, length, take, arith, refl, sym, ◌∙◌, length-drop}
 use Rattle.std.proofs.lemmas.List.{take_rest, length-take-le}
 use Rattle.hdr_core.proofs.Pieces.{consumes_more}
-use Rattle.hdr_core.proofs.folders.gives_bytes.Goals as goal
+use Rattle.hdr_core.proofs.out_folders.gives_bytes.Goals as goal
 
 pub loop-count-preserved : goal.loop-count-preserved
 loop-count-preserved g c =

@@ -1,6 +1,6 @@
 use Rattle.std.proofs.Common.{length, take, ◌-◌, ◌≤◌}
 use Rattle.std.specs.Io.KnownBytes.{Appends}
-use Rattle.hdr_core.proofs.folders.write_bytes.Given as goal
+use Rattle.hdr_core.proofs.out_folders.write_bytes.Given as goal
 
 -- so far the file took the bytes before `at`
 abbrev pub invariant-loop-at : goal.invariant-loop-at

@@ -1,7 +1,7 @@
 use Rattle.std.proofs.Common.{arith, length-drop}
 use Rattle.std.proofs.lemmas.List.{take_rest}
 use Rattle.hdr_core.proofs.Pieces.{appends_more}
-use Rattle.hdr_core.proofs.folders.write_bytes.Goals as goal
+use Rattle.hdr_core.proofs.out_folders.write_bytes.Goals as goal
 
 pub loop-at-preserved : goal.loop-at-preserved
 loop-at-preserved g c =
