@@ -79,7 +79,8 @@ module _ (pool : List Entry) where
   abbrev pub ClassesSpell : Spelling (List (List ℕ))
   ClassesSpell = CountedSpells (Numbered (NamesClassOf pool))
 
-  -- an entry of InnerClasses (JVMS 4.7.6): an anonymous class has no name, a local one no outer class
+  -- an entry of InnerClasses (JVMS 4.7.6): an anonymous class has no name, a local one no outer
+  -- class
   abbrev pub InnerSpells : Spelling InnerEntry
   InnerSpells e =
       Both (Numbered (NamesClassOf pool) e.inner)
@@ -98,7 +99,8 @@ module _ (pool : List Entry) where
 
   -- The body of an attribute of each kind. A constant is that of a field of this descriptor, and a
   -- component is spelled so.
-  abbrev pub BodySpells : Place → List ℕ → Spelling ComponentDesc → Spelling (Attr-F Attr ComponentDesc)
+  abbrev pub BodySpells : Place → List ℕ → Spelling ComponentDesc
+      → Spelling (Attr-F Attr ComponentDesc)
   -- JVMS 4.7.2
   BodySpells place descriptor ComponentIs (Attr-F.ConstantValue constant) =
       Numbered (NamesConstant (NamesString pool) pool (field_constant descriptor)) constant

@@ -8,6 +8,7 @@ use Rattle.class_desc.specs.declared.attribute.Attr.{Attr}
 use Rattle.class_desc.specs.declared.class.ClassDesc.{ClassDesc}
 use Rattle.class_desc.specs.declared.class.FieldDesc.{FieldDesc}
 use Rattle.class_desc.specs.declared.class.MethodDesc.{MethodDesc}
+use Rattle.class_desc.specs.declared.limits.TheConstants.{MOST_TEXT}
 use Rattle.class_desc.specs.declared.place.Place.{Place}
 use Rattle.class_desc.specs.declared.place.Place.TheVariants as place
 use Rattle.java_names.specs.Names.{is_text}
@@ -16,6 +17,7 @@ use Rattle.class_desc.specs.Forms.{IsFieldName, IsMethodName, IsFieldDescriptor}
 use Rattle.class_desc.specs.Forms.{IsMethodDescriptor}
 use Rattle.class_desc.specs.Items.{NamesTextOf, NamesClassOf, CountedSpells}
 use Rattle.class_desc.specs.Pool.{Entry, entry_bytes, EntryFits, numbered}
+use Rattle.class_desc.specs.Texts.{class_texts}
 
 -- ---- the head of a class
 
@@ -121,9 +123,10 @@ pub record SpellsOver (d : ClassDesc) (bytes : List ℕ) (pool : List Entry) : T
   pub distinct_methods : IsDistinct is_key (map method_key d.methods)
   pub attributes : AttributesSpell pool place.Class [] d.attrs parts.attributes
 
--- the bytes spell the description
+-- The bytes spell the description. That its texts are bounded is no rule of the JVMS: a class file
+-- can name one long text very often.
 abbrev pub ClassSpells : ClassDesc → List ℕ → Type 0
-ClassSpells d bytes = (pool : List Entry) × SpellsOver d bytes pool
+ClassSpells d bytes = (pool : List Entry) × SpellsOver d bytes pool × (class_texts d ≤ MOST_TEXT)
 
 -- some file spells the description
 abbrev pub IsValid : ClassDesc → Type 0

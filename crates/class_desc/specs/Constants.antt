@@ -37,7 +37,8 @@ number_of_letter letter =
 -- the constant of a field of this descriptor (JVMS table 4.7.2-A)
 abbrev pub field_constant : List ℕ → Option ConstantKind
 field_constant (letter ∷ []) = number_of_letter letter
-field_constant descriptor = if is_text descriptor STRING_DESCRIPTOR.now then Some kind.Text else None
+field_constant descriptor =
+    if is_text descriptor STRING_DESCRIPTOR.now then Some kind.Text else None
 
 -- the constant under this tag (JVMS table 4.7.16.1-A)
 abbrev pub element_constant : ℕ → Option ConstantKind

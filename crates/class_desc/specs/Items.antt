@@ -46,17 +46,19 @@ pub record NamesNumber (pool : List Entry) (kind : NumberKind) (n : ℕ) (consta
     pub is : constant ≡ number_value kind bits
 
 -- the number names a text, whatever its form, which is this constant
-pub record NamesTextConstant (Names : ℕ → List ℕ → Type 0) (n : ℕ) (constant : Value) : Type 0 where
-  pub text : List ℕ
-  pub named : NamesForm Names IsAnyText n text
-  pub is : constant ≡ value.Str text
+pub record NamesTextConstant (Names : ℕ → List ℕ → Type 0) (n : ℕ) (constant : Value) : Type 0
+  where
+    pub text : List ℕ
+    pub named : NamesForm Names IsAnyText n text
+    pub is : constant ≡ value.Str text
 
 -- The number is that of a constant of this kind, if there is one. What a text is depends on where
 -- the constant stands.
 abbrev pub NamesConstant : (ℕ → List ℕ → Type 0) → List Entry → Option ConstantKind → ℕ → Value
     → Type 0
 NamesConstant Names pool None n constant = ⊥
-NamesConstant Names pool (Some (kind.Number number)) n constant = NamesNumber pool number n constant
+NamesConstant Names pool (Some (kind.Number number)) n constant =
+    NamesNumber pool number n constant
 NamesConstant Names pool (Some kind.Text) n constant = NamesTextConstant Names n constant
 
 -- ---- items

@@ -157,7 +157,8 @@ for_parameters items list = ParameterCount (length list) ∷ flat_map items list
 
 -- the entry of a constant is that of its own kind; what a text gives depends on its place
 abbrev pub constant_need : (List ℕ → Need) → Value → Need
-constant_need of_text (constant.Integer number) = NumberNeed kind.Integer (cast_unsigned w32 number)
+constant_need of_text (constant.Integer number) =
+    NumberNeed kind.Integer (cast_unsigned w32 number)
 constant_need of_text (constant.Long number) = NumberNeed kind.Long (cast_unsigned w64 number)
 constant_need of_text (constant.Raw32 bits) = NumberNeed kind.Float bits
 constant_need of_text (constant.Raw64 bits) = NumberNeed kind.Double bits

@@ -6,3 +6,4 @@ pub mod Items
 pub mod Layout
 pub mod Places
 pub mod Pool
+pub mod Texts

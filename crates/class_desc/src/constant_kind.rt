@@ -5,7 +5,7 @@ ghost use Rattle.class_desc.specs.Constants.{number_of_letter, field_constant, e
 use crate::element_tag;
 
 /// A number in the pool (JVMS 4.4.4, 4.4.5).
-#[derive(Clone, Copy, Debug, PartialEq, Eq)]
+#[derive(Clone, Copy, Debug, PartialEq, Eq, Hash)]
 pub enum NumberKind {
     Integer,
     Float,
