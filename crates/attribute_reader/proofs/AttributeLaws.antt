@@ -2,7 +2,7 @@
 use Rattle.std.proofs.Common.{◌≡◌, ℕ, ◌^◌, ◌<◌, Bool, true, false, true≢false, List, []}
 use Rattle.std.proofs.Common.{◌∷◌, length}
 use Rattle.std.proofs.Common.{map, Option, Some, None, Ok, Err, refl, sym, ap, subst}
-use Rattle.std.proofs.Common.{◌∙◌}
+use Rattle.std.proofs.Common.{◌∙◌, ◌+◌, arith}
 use Rattle.std.specs.Prelude.{is_some}
 use Rattle.std.specs.List.{cons_option}
 use Rattle.std.specs.Int.{w16, w32, to_be_bytes}
@@ -30,14 +30,16 @@ use Rattle.class_desc.specs.Items.{Numbered, Both, Within, CountedSpells, ForPar
 use Rattle.class_desc.specs.Places.{kind_name, layer_kind, attribute_kind, attribute_name}
 use Rattle.class_desc.specs.Places.{kept_kind, keeps}
 use Rattle.class_desc.specs.Pool.{Entry}
+use Rattle.class_desc.specs.Texts.{total, body_texts, attribute_texts, component_texts}
+use Rattle.class_desc.proofs.Texts.{attribute_made, component_made}
 use Rattle.pool_reader.specs.declared.fault.ClassKind.TheVariants.{F5}
 use Rattle.pool_reader.specs.Reading.{◌>>=◌, Position, offset, Read, told, piece_at}
 use Rattle.pool_reader.specs.Reading.{within}
 use Rattle.pool_reader.specs.Pooled.{rows_of}
-use Rattle.pool_reader.proofs.Bodies.{WithinSpells, reads_within}
-use Rattle.pool_reader.proofs.Laws.{Reads, reads_as, Given, reads_given, Then, joined}
-use Rattle.pool_reader.proofs.Laws.{reads_then, Made, reads_made, reads_checked}
-use Rattle.pool_reader.proofs.Laws.{reads_never}
+use Rattle.pool_reader.proofs.Bodies.{WithinSpells, weighs_within}
+use Rattle.pool_reader.proofs.Laws.{Weighs, Reads, reads_as, Given, weighs_given, Then, joined}
+use Rattle.pool_reader.proofs.Laws.{weighs_then, reads_then, Made, weighs_made, reads_made}
+use Rattle.pool_reader.proofs.Laws.{reads_checked, reads_never}
 use Rattle.pool_reader.proofs.Numbers.{NumberSpells, reads_u16, reads_u32, PieceSpells}
 use Rattle.pool_reader.proofs.Numbers.{reads_piece}
 use Rattle.attribute_reader.specs.declared.constants.ConstantPlace.TheVariants as constant
@@ -51,14 +53,14 @@ use Rattle.attribute_reader.specs.Values.{field_descriptor_at}
 use Rattle.attribute_reader.proofs.Adding.{Adding, to_all, from_all}
 use Rattle.attribute_reader.proofs.BodyLaws.{IsUnseen, unseen_is, is_unseen, reads_parameter}
 use Rattle.attribute_reader.proofs.BodyLaws.{reads_inner_classes}
-use Rattle.attribute_reader.proofs.ConstantLaws.{reads_constant}
+use Rattle.attribute_reader.proofs.ConstantLaws.{weighs_constant}
 use Rattle.attribute_reader.proofs.Distinct.{AreNew, distinct_new, new_distinct, other_text}
 use Rattle.attribute_reader.proofs.FormLaws.{field_name_tells, signature_tells}
-use Rattle.attribute_reader.proofs.ItemLaws.{reads_text, reads_any_text, reads_field_descriptor}
-use Rattle.attribute_reader.proofs.ItemLaws.{reads_class}
+use Rattle.attribute_reader.proofs.ItemLaws.{weighs_text, weighs_field_descriptor, weighs_class}
+use Rattle.attribute_reader.proofs.ItemLaws.{reads_attribute_name}
 use Rattle.attribute_reader.proofs.KindNames.{kept_name, kept_own, not_kept}
-use Rattle.attribute_reader.proofs.ListLaws.{reads_counted_at, reads_for_parameters, Grown}
-use Rattle.attribute_reader.proofs.ListLaws.{reads_growing}
+use Rattle.attribute_reader.proofs.ListLaws.{weighs_counted_at, weighs_for_parameters, Grown}
+use Rattle.attribute_reader.proofs.ListLaws.{weighs_growing}
 use Rattle.attribute_reader.proofs.ValueLaws.{reads_top_value, reads_annotations}
 
 abbrev Layer : Type 0
@@ -109,14 +111,15 @@ reads_passed =
 -- ---- the bodies
 
 module _ (pool : List Entry) {component : Position → Read ComponentDesc}
-    {ComponentIs : ComponentDesc → List ℕ → Type 0} (law : Reads component ComponentIs)
+    {ComponentIs : ComponentDesc → List ℕ → Type 0}
+    (law : Weighs 0 component_texts component ComponentIs)
     (here : Place) (descriptor : List ℕ) where
   -- no other place keeps a Record
   reads_record : (here : Place)
       → keeps here (kind_name kind.Record) ≡ true
-      → Reads (record_at component here) (CountedSpells ComponentIs)
+      → Weighs 0 (total component_texts) (record_at component here) (CountedSpells ComponentIs)
   unfolding record_at
-  reads_record place.Class kept = reads_counted_at law
+  reads_record place.Class kept = weighs_counted_at law
   reads_record place.Field kept = absurd (true≢false (sym kept))
   reads_record place.Method kept = absurd (true≢false (sym kept))
   reads_record place.Component kept = absurd (true≢false (sym kept))
@@ -246,42 +249,85 @@ module _ (pool : List Entry) {component : Position → Read ComponentDesc}
       subst (λ k. OfKind k item text) s.kind_is
       (from_layer (out-Attr item) item text (roll-out-Attr item) s.spelled)
 
+  -- what an attribute made of this layer weighs
+  weight_of : (layer : Layer) (item : Attr) → roll-Attr layer ≡ item
+      → 0 + body_texts component_texts layer ≡ attribute_texts item
+  weight_of layer item is = omega (arith, attribute_made layer item is)
+
   reads_of_kind : (of : AttributeKind)
       → keeps here (kind_name of) ≡ true
-      → Reads (body_of (rows_of pool) component here descriptor of) (OfKind of)
+      → Weighs 0 attribute_texts (body_of (rows_of pool) component here descriptor of) (OfKind of)
   reads_of_kind kind.ConstantValue kept =
-      reads_made attr.ConstantValue
-      (reads_constant pool constant.Field (field_constant descriptor))
+      weighs_made attr.ConstantValue
+      (λ constant. weight_of (Attr-F.ConstantValue constant) (attr.ConstantValue constant)
+      (attr.rolls-ConstantValue constant))
+      (weighs_constant pool constant.Field (field_constant descriptor))
   reads_of_kind kind.Exceptions kept =
-      reads_made attr.Exceptions (reads_counted_at (reads_class pool))
+      weighs_made attr.Exceptions
+      (λ names. weight_of (Attr-F.Exceptions names) (attr.Exceptions names)
+      (attr.rolls-Exceptions names))
+      (weighs_counted_at (weighs_class pool))
   reads_of_kind kind.Signature kept =
-      reads_made attr.Signature
-      (reads_text pool (form_fault (form.Signature here)) (IsSignatureText here)
+      weighs_made attr.Signature
+      (λ text. weight_of (Attr-F.Signature text) (attr.Signature text)
+      (attr.rolls-Signature text))
+      (weighs_text pool (form_fault (form.Signature here)) (IsSignatureText here)
       (signature_tells here))
-  reads_of_kind kind.Deprecated kept = reads_given attr.Deprecated
-  reads_of_kind kind.Synthetic kept = reads_given attr.Synthetic
+  reads_of_kind kind.Deprecated kept =
+      weighs_given attr.Deprecated
+      (sym (attribute_made Attr-F.Deprecated attr.Deprecated attr.rolls-Deprecated))
+  reads_of_kind kind.Synthetic kept =
+      weighs_given attr.Synthetic
+      (sym (attribute_made Attr-F.Synthetic attr.Synthetic attr.rolls-Synthetic))
   reads_of_kind kind.InnerClasses kept =
-      reads_made attr.InnerClasses (reads_inner_classes pool)
+      weighs_made attr.InnerClasses
+      (λ entries. weight_of (Attr-F.InnerClasses entries) (attr.InnerClasses entries)
+      (attr.rolls-InnerClasses entries))
+      (reads_inner_classes pool)
   reads_of_kind kind.Record kept =
-      reads_made attr.Components (reads_record here kept)
+      weighs_made attr.Components
+      (λ components. weight_of (Attr-F.Components components) (attr.Components components)
+      (attr.rolls-Components components))
+      (reads_record here kept)
   reads_of_kind kind.PermittedSubclasses kept =
-      reads_made attr.PermittedSubclasses (reads_counted_at (reads_class pool))
+      weighs_made attr.PermittedSubclasses
+      (λ names. weight_of (Attr-F.PermittedSubclasses names) (attr.PermittedSubclasses names)
+      (attr.rolls-PermittedSubclasses names))
+      (weighs_counted_at (weighs_class pool))
   reads_of_kind kind.AnnotationDefault kept =
-      reads_made attr.AnnotationDefault (reads_top_value pool)
+      weighs_made attr.AnnotationDefault
+      (λ value. weight_of (Attr-F.AnnotationDefault value) (attr.AnnotationDefault value)
+      (attr.rolls-AnnotationDefault value))
+      (reads_top_value pool)
   reads_of_kind kind.MethodParameters kept =
-      reads_made attr.MethodParameters (reads_for_parameters (reads_parameter pool))
+      weighs_made attr.MethodParameters
+      (λ entries. weight_of (Attr-F.MethodParameters entries) (attr.MethodParameters entries)
+      (attr.rolls-MethodParameters entries))
+      (weighs_for_parameters (reads_parameter pool))
   reads_of_kind kind.VisibleAnnotations kept =
-      reads_made attr.VisibleAnns (reads_annotations pool)
+      weighs_made attr.VisibleAnns
+      (λ annotations. weight_of (Attr-F.VisibleAnns annotations) (attr.VisibleAnns annotations)
+      (attr.rolls-VisibleAnns annotations))
+      (reads_annotations pool)
   reads_of_kind kind.InvisibleAnnotations kept =
-      reads_made attr.InvisibleAnns (reads_annotations pool)
+      weighs_made attr.InvisibleAnns
+      (λ annotations. weight_of (Attr-F.InvisibleAnns annotations) (attr.InvisibleAnns annotations)
+      (attr.rolls-InvisibleAnns annotations))
+      (reads_annotations pool)
   reads_of_kind kind.VisibleParameterAnnotations kept =
-      reads_made attr.VisibleParamAnns (reads_for_parameters (reads_annotations pool))
+      weighs_made attr.VisibleParamAnns
+      (λ lists. weight_of (Attr-F.VisibleParamAnns lists) (attr.VisibleParamAnns lists)
+      (attr.rolls-VisibleParamAnns lists))
+      (weighs_for_parameters (reads_annotations pool))
   reads_of_kind kind.InvisibleParameterAnnotations kept =
-      reads_made attr.InvisibleParamAnns (reads_for_parameters (reads_annotations pool))
+      weighs_made attr.InvisibleParamAnns
+      (λ lists. weight_of (Attr-F.InvisibleParamAnns lists) (attr.InvisibleParamAnns lists)
+      (attr.rolls-InvisibleParamAnns lists))
+      (weighs_for_parameters (reads_annotations pool))
 
   reads_body : (of : AttributeKind)
       → keeps here (kind_name of) ≡ true
-      → Reads (body_of (rows_of pool) component here descriptor of) (BodyIs of)
+      → Weighs 0 attribute_texts (body_of (rows_of pool) component here descriptor of) (BodyIs of)
   reads_body of kept =
       reads_as (BodyIs of) (reads_of_kind of kept) (to_body of) (from_body of)
 
@@ -298,7 +344,7 @@ module _ (pool : List Entry) {component : Position → Read ComponentDesc}
 
   reads_kept : (seen : List (List ℕ)) (at : ℕ) (name : List ℕ) (of : AttributeKind)
       → keeps here (kind_name of) ≡ true
-      → Reads
+      → Weighs 0 (total attribute_texts)
       (behind_name (rows_of pool) component here descriptor seen at name (Some of))
       (Behind seen name (Some of))
   reads_kept seen at name of kept =
@@ -306,16 +352,16 @@ module _ (pool : List Entry) {component : Position → Read ComponentDesc}
       (reads_checked (unseen at name seen)
       (λ new p. within (body_of (rows_of pool) component here descriptor of) p >>= λ a.
       Ok (a.0 ∷ [], a.1))
-      (λ new. reads_made (λ a. a ∷ []) (reads_within (reads_body of kept))))
+      (λ new. weighs_made (λ a. a ∷ []) (λ a. omega arith) (weighs_within (reads_body of kept))))
       (λ more text c. (unseen_is at name seen c.item c.passed, c.second))
       (λ more text s. record { item = tt; passed = is_unseen at name seen s.0; second = s.1 })
 
   reads_behind : (seen : List (List ℕ)) (at : ℕ) (name : List ℕ) (o : Option AttributeKind)
       → kept_kind here name ≡ o
-      → Reads
+      → Weighs 0 (total attribute_texts)
       (behind_name (rows_of pool) component here descriptor seen at name o)
       (Behind seen name o)
-  reads_behind seen at name None is = reads_made (λ none. []) reads_passed
+  reads_behind seen at name None is = weighs_made (λ none. []) (λ none. refl) reads_passed
   reads_behind seen at name (Some of) is =
       reads_kept seen at name of
       (ap (keeps here) (kept_name here name of is) ∙ ap is_some is)
@@ -470,7 +516,8 @@ module _ (pool : List Entry) {component : Position → Read ComponentDesc}
           }
 
   reads_attribute : (before : List Attr)
-      → Reads (attribute_at (rows_of pool) component here descriptor before) (Adds before)
+      → Weighs 0 (total attribute_texts)
+      (attribute_at (rows_of pool) component here descriptor before) (Adds before)
   unfolding attribute_at
   reads_attribute before =
       reads_as (Adds before)
@@ -478,7 +525,7 @@ module _ (pool : List Entry) {component : Position → Read ComponentDesc}
       (λ begun name.
       behind_name (rows_of pool) component here descriptor (map attribute_name before)
       (offset begun) name (kept_kind here name))
-      (reads_any_text pool)
+      (reads_attribute_name pool)
       (λ begun name.
       reads_behind (map attribute_name before) (offset begun) name (kept_kind here name) refl))
       (to_attribute before)
@@ -532,7 +579,8 @@ module _ (pool : List Entry) {component : Position → Read ComponentDesc}
             });
       }
 
-  pub reads_over : Reads (attributes_over (rows_of pool) component here descriptor) Over
+  pub reads_over : Weighs 0 (total attribute_texts)
+      (attributes_over (rows_of pool) component here descriptor) Over
   unfolding attributes_over
   reads_over =
       reads_as Over
@@ -540,13 +588,13 @@ module _ (pool : List Entry) {component : Position → Read ComponentDesc}
       (λ begun count.
       growing (attribute_at (rows_of pool) component here descriptor) [] count)
       reads_u16
-      (λ begun count. reads_growing reads_attribute count []))
+      (λ begun count. weighs_growing attribute_texts reads_attribute count []))
       to_over
       from_over
 
 -- ---- components
 
-no_component : Reads (λ p. Err (told p F5)) (λ (c : ComponentDesc) text. ⊥)
+no_component : Weighs 0 component_texts (λ p. Err (told p F5)) (λ (c : ComponentDesc) text. ⊥)
 no_component = reads_never (λ p. told p F5)
 
 module _ (pool : List Entry) where
@@ -617,11 +665,12 @@ module _ (pool : List Entry) where
     };
   }
 
-  pub reads_component : Reads (component_at (rows_of pool)) (ComponentSpells pool)
+  pub reads_component : Weighs 0 component_texts (component_at (rows_of pool))
+      (ComponentSpells pool)
   unfolding component_at
   reads_component =
       reads_as (ComponentSpells pool)
-      (reads_then
+      (weighs_then
       (λ begun name rest. field_descriptor_at (rows_of pool) rest >>= λ descriptor.
       attributes_over (rows_of pool) (λ q. Err (told q F5)) place.Component descriptor.0
       descriptor.1 >>= λ attrs.
@@ -633,9 +682,9 @@ module _ (pool : List Entry) where
         }),
         attrs.1,
       ))
-      (reads_text pool (form_fault form.FieldName) IsFieldName field_name_tells)
+      (weighs_text pool (form_fault form.FieldName) IsFieldName field_name_tells)
       (λ begun name.
-      reads_then
+      weighs_then
       (λ begun descriptor rest.
       attributes_over (rows_of pool) (λ q. Err (told q F5)) place.Component descriptor rest >>=
       λ attrs.
@@ -647,14 +696,18 @@ module _ (pool : List Entry) where
         }),
         attrs.1,
       ))
-      (reads_field_descriptor pool)
+      (weighs_field_descriptor pool)
       (λ begun descriptor.
-      reads_made
+      weighs_made
       (λ attrs. roll-ComponentDesc (record {
         name = name;
         descriptor = descriptor;
         attrs = attrs;
       }))
+      (λ attrs. omega (
+        arith,
+        component_made (record { name = name; descriptor = descriptor; attrs = attrs }),
+      ))
       (reads_over pool no_component place.Component descriptor))))
       to_component
       from_component
@@ -662,16 +715,16 @@ module _ (pool : List Entry) where
 -- ---- the attributes of a class, a field or a method
 
 pub reads_of_class : (pool : List Entry) (descriptor : List ℕ)
-    → Reads (attributes_at (rows_of pool) place.Class descriptor)
+    → Weighs 0 (total attribute_texts) (attributes_at (rows_of pool) place.Class descriptor)
     (AttributesSpell pool place.Class descriptor)
 reads_of_class pool descriptor = reads_over pool (reads_component pool) place.Class descriptor
 
 pub reads_of_field : (pool : List Entry) (descriptor : List ℕ)
-    → Reads (attributes_at (rows_of pool) place.Field descriptor)
+    → Weighs 0 (total attribute_texts) (attributes_at (rows_of pool) place.Field descriptor)
     (AttributesSpell pool place.Field descriptor)
 reads_of_field pool descriptor = reads_over pool (reads_component pool) place.Field descriptor
 
 pub reads_of_method : (pool : List Entry) (descriptor : List ℕ)
-    → Reads (attributes_at (rows_of pool) place.Method descriptor)
+    → Weighs 0 (total attribute_texts) (attributes_at (rows_of pool) place.Method descriptor)
     (AttributesSpell pool place.Method descriptor)
 reads_of_method pool descriptor = reads_over pool (reads_component pool) place.Method descriptor

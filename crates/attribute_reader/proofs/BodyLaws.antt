@@ -1,7 +1,7 @@
 -- Entries of InnerClasses and of MethodParameters.
 use Rattle.std.proofs.Common.{◌≡◌, ℕ, ◌^◌, ◌<◌, Bool, true, false, cond, List, [], ◌∷◌}
 use Rattle.std.proofs.Common.{length, map, Option, Some, Ok, Err, refl, sym, ap}
-use Rattle.std.proofs.Common.{subst, ◌∙◌, append-nil}
+use Rattle.std.proofs.Common.{subst, ◌∙◌, ◌+◌, Result, arith}
 use Rattle.std.specs.List.{list_any, filter_map}
 use Rattle.std.specs.Int.{w16, to_be_bytes}
 use Rattle.java_names.specs.Names.{is_text}
@@ -12,25 +12,28 @@ use Rattle.class_desc.specs.Forms.{IsAnyText}
 use Rattle.class_desc.specs.Items.{NamesTextOf, NamesClassOf, OrZero, Numbered, FlagsSpell}
 use Rattle.class_desc.specs.Items.{EachSpells}
 use Rattle.class_desc.specs.Pool.{Entry}
+use Rattle.class_desc.specs.Texts.{total, option_texts, inner_texts, parameter_texts}
+use Rattle.pool_reader.specs.declared.fault.ClassFault.{ClassFault}
 use Rattle.pool_reader.specs.declared.fault.ClassKind.TheVariants.{F9}
-use Rattle.pool_reader.specs.Reading.{◌>>=◌, offset, fault_at, number_at}
+use Rattle.pool_reader.specs.Reading.{◌>>=◌, fault_at, number_at}
 use Rattle.pool_reader.specs.Pooled.{rows_of}
-use Rattle.pool_reader.proofs.Laws.{Reads, reads_as, Given, reads_given, Then, joined, alone}
-use Rattle.pool_reader.proofs.Laws.{reads_then, Made, reads_made, reads_checked}
+use Rattle.pool_reader.proofs.Laws.{Weighs, Reads, bind_ok, ok_is, reads_as, Then, joined}
+use Rattle.pool_reader.proofs.Laws.{weighs_then, reads_then, Made, weighs_made}
 use Rattle.pool_reader.proofs.Numbers.{NumberSpells, reads_u16}
 use Rattle.attribute_reader.specs.declared.forms.Form.TheVariants as form
 use Rattle.attribute_reader.specs.Forms.{form_fault}
-use Rattle.attribute_reader.specs.Items.{growing}
+use Rattle.attribute_reader.specs.Items.{growing, class_checked}
 use Rattle.attribute_reader.specs.Attributes.{unseen, name_or_zero_at, class_or_zero_at}
-use Rattle.attribute_reader.specs.Attributes.{inner_name_at, inner_class_at, next_inner_class_at}
+use Rattle.attribute_reader.specs.Attributes.{new_class_checked, inner_name_at, inner_class_at}
+use Rattle.attribute_reader.specs.Attributes.{next_inner_class_at}
 use Rattle.attribute_reader.specs.Attributes.{inner_classes_at, parameter_at}
 use Rattle.attribute_reader.proofs.Adding.{Adding, to_all, from_all}
 use Rattle.attribute_reader.proofs.Distinct.{IsNew, AreNew, distinct_new, new_distinct}
 use Rattle.attribute_reader.proofs.Distinct.{other_text}
 use Rattle.attribute_reader.proofs.FormLaws.{any_text_tells}
-use Rattle.attribute_reader.proofs.ItemLaws.{finds_text, finds_class, finds_or_zero}
-use Rattle.attribute_reader.proofs.ItemLaws.{reads_numbered, reads_class}
-use Rattle.attribute_reader.proofs.ListLaws.{Grown, reads_growing}
+use Rattle.attribute_reader.proofs.ItemLaws.{Finds, finds_text, finds_class, weighs_numbered}
+use Rattle.attribute_reader.proofs.ItemLaws.{weighs_optional}
+use Rattle.attribute_reader.proofs.ListLaws.{Grown, weighs_growing}
 
 -- ---- a text that was not seen
 
@@ -65,16 +68,14 @@ module _ (pool : List Entry) where
   abbrev ClassOrZero : Option (List ℕ) → List ℕ → Type 0
   ClassOrZero = Numbered (OrZero (NamesClassOf pool))
 
-  pub reads_name_or_zero : Reads (name_or_zero_at (rows_of pool)) NameOrZero
+  pub reads_name_or_zero : Weighs 0 option_texts (name_or_zero_at (rows_of pool)) NameOrZero
   reads_name_or_zero =
-      reads_numbered
-      (finds_or_zero (finds_text pool (form_fault form.AnyText) IsAnyText any_text_tells)
-      (λ text s. let e = s.named in cc))
+      weighs_optional (finds_text pool (form_fault form.AnyText) IsAnyText any_text_tells)
+      (λ text s. let e = s.named in cc)
 
-  pub reads_class_or_zero : Reads (class_or_zero_at (rows_of pool)) ClassOrZero
+  pub reads_class_or_zero : Weighs 0 option_texts (class_or_zero_at (rows_of pool)) ClassOrZero
   reads_class_or_zero =
-      reads_numbered
-      (finds_or_zero (finds_class pool) (λ name s. let e = s.named.1 in cc))
+      weighs_optional (finds_class pool) (λ name s. let e = s.named.1 in cc)
 
   -- ---- parameters
 
@@ -104,75 +105,56 @@ module _ (pool : List Entry) where
     second = record { item = e.flags; is = refl; spells = s.second };
   }
 
-  pub reads_parameter : Reads (parameter_at (rows_of pool)) (ParameterSpells pool)
+  pub reads_parameter : Weighs 0 parameter_texts (parameter_at (rows_of pool))
+      (ParameterSpells pool)
   unfolding parameter_at
   reads_parameter =
       reads_as (ParameterSpells pool)
-      (reads_then
+      (weighs_then
       (λ begun name rest. number_at w16 rest >>= λ flags.
       Ok (record { name = name; flags = flags.0 }, flags.1))
       reads_name_or_zero
-      (λ begun name. reads_made (λ flags. record { name = name; flags = flags }) reads_flags))
+      (λ begun name.
+      weighs_made (λ flags. record { name = name; flags = flags }) (λ flags. omega arith)
+      reads_flags))
       to_parameter
       from_parameter
 
   -- ---- inner classes
 
-  abbrev Class : List ℕ → List ℕ → Type 0
-  Class = Numbered (NamesClassOf pool)
+  abbrev fine : List ℕ → Result (List ℕ) ClassFault
+  fine name = Ok name
 
   -- a class that was not seen
-  record NewClass (seen : List (List ℕ)) (name : List ℕ) (text : List ℕ) : Type 0 where
+  record NewClass (seen : List (List ℕ)) (n : ℕ) (name : List ℕ) : Type 0 where
+    class : NamesClassOf pool n name
     new : IsUnseen seen name
-    spelled : Class name text
 
-  abbrev ClassParts : List (List ℕ) → List ℕ → List ℕ → Type 0
-  ClassParts seen = Then Class (λ name made rest. IsUnseen seen name × Given name made rest)
+  finds_new_class : (seen : List (List ℕ))
+      → Finds (new_class_checked (rows_of pool) seen) (NewClass seen)
+  finds_new_class seen = record { right = right; again = again }
+    where
+      right : (at n : ℕ) (name : List ℕ)
+          → n < 2 ^ 16
+          → new_class_checked (rows_of pool) seen at n ≡ Ok name
+          → NewClass seen n name
+      right at n name fits e =
+          let b = bind_ok (class_checked (rows_of pool) at n)
+          (λ name. unseen at name seen >>= λ new. fine name) name e in
+          let c = bind_ok (unseen at b.0 seen) (λ new. fine b.0) name b.2 in
+          subst (NewClass seen n) (ok_is b.0 name c.2) (record {
+            class = (finds_class pool).right at n b.0 fits b.1;
+            new = unseen_is at b.0 seen c.0 c.1;
+          })
 
-  reads_unseen : (at : ℕ) (name : List ℕ) (seen : List (List ℕ))
-      → Reads (λ p. unseen at name seen >>= λ new. Ok (name, p))
-      (λ made rest. IsUnseen seen name × Given name made rest)
-  reads_unseen at name seen =
-      reads_as (λ made rest. IsUnseen seen name × Given name made rest)
-      (reads_checked (unseen at name seen) (λ new p. Ok (name, p)) (λ new. reads_given name))
-      (λ made rest c. (unseen_is at name seen c.item c.passed, c.second))
-      (λ made rest n. record { item = tt; passed = is_unseen at name seen n.0; second = n.1 })
-
-  to_class : (seen : List (List ℕ)) (name text : List ℕ) → ClassParts seen name text
-      → NewClass seen name text
-  to_class seen name text s =
-      let g = s.second.1 in
-      subst (λ (n : List ℕ). NewClass seen n text) g.0 (record {
-        new = s.second.0;
-        spelled = record {
-          number = s.first.number;
-          fits = s.first.fits;
-          named = s.first.named;
-          is = alone s s.first.is g.1;
-        };
-      })
-
-  from_class : (seen : List (List ℕ)) (name text : List ℕ) → NewClass seen name text
-      → ClassParts seen name text
-  from_class seen name text s = record {
-    item = name;
-    front = text;
-    rest = [];
-    whole = sym (append-nil text);
-    first = s.spelled;
-    second = (s.new, (refl, refl));
-  }
-
-  reads_new_class : (seen : List (List ℕ))
-      → Reads (inner_name_at (rows_of pool) seen) (NewClass seen)
-  unfolding inner_name_at
-  reads_new_class seen =
-      reads_as (NewClass seen)
-      (reads_then (λ begun name rest. unseen (offset begun) name seen >>= λ new. Ok (name, rest))
-      (reads_class pool)
-      (λ begun name. reads_unseen (offset begun) name seen))
-      (to_class seen)
-      (from_class seen)
+      again : (at n : ℕ) (name : List ℕ)
+          → NewClass seen n name
+          → new_class_checked (rows_of pool) seen at n ≡ Ok name
+      again at n name s =
+          ap (λ (r : Result (List ℕ) ClassFault). r >>= λ name. unseen at name seen >>= λ new.
+          fine name) ((finds_class pool).again at n name s.class)
+          ∙ ap (λ (r : Result (Unit {0}) ClassFault). r >>= λ new. fine name)
+          (is_unseen at name seen s.new)
 
   -- an entry of a class that was not seen
   record NewInner (seen : List (List ℕ)) (e : InnerEntry) (text : List ℕ) : Type 0 where
@@ -181,7 +163,7 @@ module _ (pool : List Entry) where
 
   abbrev InnerParts : List (List ℕ) → InnerEntry → List ℕ → Type 0
   InnerParts seen =
-      Then (NewClass seen) (λ inner.
+      Then (Numbered (NewClass seen)) (λ inner.
       Then ClassOrZero (λ outer.
       Then NameOrZero (λ name.
       Made (λ flags. record { inner = inner; outer = outer; name = name; flags = flags })
@@ -193,12 +175,17 @@ module _ (pool : List Entry) where
       let o = s.second in
       let n = o.second in
       subst (λ (e : InnerEntry). NewInner seen e text) n.second.is (record {
-        new = s.first.new;
+        new = s.first.named.new;
         spelled = record {
           front = s.front;
           rest = s.rest;
           whole = s.whole;
-          first = s.first.spelled;
+          first = record {
+            number = s.first.number;
+            fits = s.first.fits;
+            named = s.first.named.class;
+            is = s.first.is;
+          };
           second = record {
             front = o.front;
             rest = o.rest;
@@ -226,7 +213,12 @@ module _ (pool : List Entry) where
         front = i.front;
         rest = i.rest;
         whole = i.whole;
-        first = record { new = s.new; spelled = i.first };
+        first = record {
+          number = i.first.number;
+          fits = i.first.fits;
+          named = record { class = i.first.named; new = s.new };
+          is = i.first.is;
+        };
         second = record {
           item = e.outer;
           front = o.front;
@@ -245,32 +237,33 @@ module _ (pool : List Entry) where
       }
 
   reads_inner : (seen : List (List ℕ))
-      → Reads (inner_class_at (rows_of pool) seen) (NewInner seen)
+      → Weighs 0 inner_texts (inner_class_at (rows_of pool) seen) (NewInner seen)
   unfolding inner_class_at
   reads_inner seen =
       reads_as (NewInner seen)
-      (reads_then
+      (weighs_then
       (λ begun inner rest. class_or_zero_at (rows_of pool) rest >>= λ outer.
       name_or_zero_at (rows_of pool) outer.1 >>= λ name. number_at w16 name.1 >>= λ flags.
       Ok (
         record { inner = inner; outer = outer.0; name = name.0; flags = flags.0 },
         flags.1,
       ))
-      (reads_new_class seen)
+      (weighs_numbered length (finds_new_class seen))
       (λ begun inner.
-      reads_then
+      weighs_then
       (λ begun outer rest. name_or_zero_at (rows_of pool) rest >>= λ name.
       number_at w16 name.1 >>= λ flags.
       Ok (record { inner = inner; outer = outer; name = name.0; flags = flags.0 }, flags.1))
       reads_class_or_zero
       (λ begun outer.
-      reads_then
+      weighs_then
       (λ begun name rest. number_at w16 rest >>= λ flags.
       Ok (record { inner = inner; outer = outer; name = name; flags = flags.0 }, flags.1))
       reads_name_or_zero
       (λ begun name.
-      reads_made
+      weighs_made
       (λ flags. record { inner = inner; outer = outer; name = name; flags = flags })
+      (λ flags. omega arith)
       reads_flags))))
       (to_inner seen)
       (from_inner seen)
@@ -287,10 +280,11 @@ module _ (pool : List Entry) where
   AddsInner = Adding is_text other_text added inner_of (InnerSpells pool)
 
   reads_next : (before : List InnerEntry)
-      → Reads (next_inner_class_at (rows_of pool) before) (AddsInner before)
+      → Weighs 0 (total inner_texts) (next_inner_class_at (rows_of pool) before)
+      (AddsInner before)
   reads_next before =
       reads_as (AddsInner before)
-      (reads_made (λ e. e ∷ []) (reads_inner (map inner_of before)))
+      (weighs_made (λ e. e ∷ []) (λ e. omega arith) (reads_inner (map inner_of before)))
       (λ more text s. to more text s)
       (λ more text s. from more text s)
     where
@@ -362,11 +356,12 @@ module _ (pool : List Entry) where
             });
       }
 
-  pub reads_inner_classes : Reads (inner_classes_at (rows_of pool)) (InnerClassesSpell pool)
+  pub reads_inner_classes : Weighs 0 (total inner_texts) (inner_classes_at (rows_of pool))
+      (InnerClassesSpell pool)
   unfolding inner_classes_at
   reads_inner_classes =
       reads_as (InnerClassesSpell pool)
       (reads_then (λ begun count. growing (next_inner_class_at (rows_of pool)) [] count) reads_u16
-      (λ begun count. reads_growing reads_next count []))
+      (λ begun count. weighs_growing inner_texts reads_next count []))
       to_inners
       from_inners

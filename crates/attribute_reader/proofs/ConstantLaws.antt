@@ -14,18 +14,19 @@ use Rattle.class_desc.specs.Items.{NamesForm, NamesString, NamesTextConstant}
 use Rattle.class_desc.specs.Items.{NamesConstant, Numbered}
 use Rattle.class_desc.specs.Pool.{Entry, Utf8, Integer, Float, Long, Double, ClassRef, StringRef}
 use Rattle.class_desc.specs.Pool.{Other, Slot, Held, Second, held_in, NamesText}
+use Rattle.class_desc.specs.Texts.{constant_texts}
 use Rattle.pool_reader.specs.declared.fault.ClassKind.{ClassKind}
 use Rattle.pool_reader.specs.declared.fault.ClassKind.TheVariants.{F5}
 use Rattle.pool_reader.specs.Pooled.{Row, TextRow, MalformedRow, row_of, slot_row, rows_of}
 use Rattle.pool_reader.specs.Pooled.{text_named}
-use Rattle.pool_reader.proofs.Laws.{Reads, ok_is}
+use Rattle.pool_reader.proofs.Laws.{Weighs, ok_is}
 use Rattle.pool_reader.proofs.Named.{slot_in, row_is, entry_is, is_text_named, text_named_is}
 use Rattle.attribute_reader.specs.declared.constants.ConstantPlace.{ConstantPlace}
 use Rattle.attribute_reader.specs.declared.constants.ConstantPlace.TheVariants as place
 use Rattle.attribute_reader.specs.Items.{number_of_row, string_of_row}
 use Rattle.attribute_reader.specs.Items.{constant_text, text_value, constant_named, told_at}
-use Rattle.attribute_reader.specs.Items.{constant_checked, numbered_at}
-use Rattle.attribute_reader.proofs.ItemLaws.{Finds, reads_numbered}
+use Rattle.attribute_reader.specs.Items.{constant_checked, constant_at}
+use Rattle.attribute_reader.proofs.ItemLaws.{Finds, weighs_numbered}
 
 -- ---- numbers
 
@@ -260,7 +261,7 @@ finds_constant pool where_ of = record {
   again = λ at n constant s. ap (told_at at) (from_constant pool where_ of n constant s);
 }
 
-pub reads_constant : (pool : List Entry) (where_ : ConstantPlace) (of : Option ConstantKind)
-    → Reads (numbered_at (constant_checked where_ (rows_of pool) of))
+pub weighs_constant : (pool : List Entry) (where_ : ConstantPlace) (of : Option ConstantKind)
+    → Weighs 0 constant_texts (constant_at where_ (rows_of pool) of)
     (Numbered (NamesConstantAt pool where_ of))
-reads_constant pool where_ of = reads_numbered (finds_constant pool where_ of)
+weighs_constant pool where_ of = weighs_numbered constant_texts (finds_constant pool where_ of)

@@ -1,26 +1,27 @@
 -- Items that are numbers of texts and of classes.
 use Rattle.std.proofs.Common.{◌≡◌, ℕ, ◌<◌, ◌^◌, Bool, true, false, cond, eqb, List, []}
 use Rattle.std.proofs.Common.{Option, Some, None, Result, Ok, Err, refl, sym, ap, subst, ◌∙◌}
-use Rattle.std.proofs.Common.{append-nil}
+use Rattle.std.proofs.Common.{append-nil, length}
 use Rattle.std.specs.Int.{w16, to_be_bytes}
 use Rattle.std.proofs.lemmas.Bool.{eqb-true, eq-eqb}
 use Rattle.class_desc.specs.Forms.{IsAnyText, IsFieldDescriptor}
 use Rattle.class_desc.specs.Items.{NamesTextOf, NamesClassOf, OrZero, Numbered}
 use Rattle.class_desc.specs.Pool.{Entry}
+use Rattle.class_desc.specs.Texts.{option_texts}
 use Rattle.pool_reader.specs.declared.fault.ClassFault.{ClassFault}
 use Rattle.pool_reader.specs.declared.fault.ClassKind.{ClassKind}
-use Rattle.pool_reader.specs.Reading.{◌>>=◌, offset, number_at}
+use Rattle.pool_reader.specs.Reading.{◌>>=◌, Position, Read, offset, number_at, spent_at}
 use Rattle.pool_reader.specs.Pooled.{rows_of, text_named, class_named}
-use Rattle.pool_reader.proofs.Laws.{ok_is, Reads, reads_as, reads_given, Then, alone, Made}
-use Rattle.pool_reader.proofs.Laws.{reads_then_of}
-use Rattle.pool_reader.proofs.Laws.{reads_checked}
-use Rattle.pool_reader.proofs.Numbers.{NumberSpells, reads_u16}
+use Rattle.pool_reader.proofs.Laws.{ok_is, Weighs, Reads, weightless, reads_as, Given}
+use Rattle.pool_reader.proofs.Laws.{reads_given, Then, alone, Made, reads_then_of, reads_checked}
+use Rattle.pool_reader.proofs.Numbers.{NumberSpells, reads_u16, weighs_spent}
 use Rattle.pool_reader.proofs.Named.{is_text_named, text_named_is, is_class_named}
 use Rattle.pool_reader.proofs.Named.{class_named_is}
 use Rattle.attribute_reader.specs.declared.forms.Form.TheVariants as form
 use Rattle.attribute_reader.specs.Forms.{form_fault}
 use Rattle.attribute_reader.specs.Items.{passed, checked, text_checked, class_checked, or_zero}
-use Rattle.attribute_reader.specs.Items.{numbered_at, text_at, class_at}
+use Rattle.attribute_reader.specs.Items.{numbered_at, text_at, class_at, optional_at}
+use Rattle.attribute_reader.specs.Items.{attribute_name_at}
 use Rattle.attribute_reader.proofs.FormLaws.{Tells, any_text_tells, class_name_tells}
 use Rattle.attribute_reader.proofs.FormLaws.{field_descriptor_tells}
 
@@ -108,12 +109,15 @@ pub record Finds {A : Type 0} (check : ℕ → ℕ → Result A ClassFault) (Nam
   pub right : (at n : ℕ) (item : A) → n < 2 ^ 16 → check at n ≡ Ok item → Names n item
   pub again : (at n : ℕ) (item : A) → Names n item → check at n ≡ Ok item
 
--- nothing is read for a check
-reads_check : {A : Type 0} (check : Result A ClassFault)
-    → Reads (λ p. check >>= λ item. Ok (item, p)) (λ item rest. (check ≡ Ok item) × (rest ≡ []))
-reads_check check =
+-- nothing is read for a check; behind it what it gives is given, as here
+weighs_check : {A : Type 0} {weight : A → ℕ} (check : Result A ClassFault)
+    (give : A → Position → Read A)
+    → ((item : A) → Weighs 0 weight (give item) (Given item))
+    → Weighs 0 weight (λ p. check >>= λ item. give item p)
+    (λ item rest. (check ≡ Ok item) × (rest ≡ []))
+weighs_check check give law =
     reads_as (λ item rest. (check ≡ Ok item) × (rest ≡ []))
-    (reads_checked check (λ item p. Ok (item, p)) (λ item. reads_given item))
+    (reads_checked check give law)
     (λ item rest c. (subst (λ i. check ≡ Ok i) c.second.0 c.passed, c.second.1))
     (λ item rest c. record { item = item; passed = c.0; second = (refl, c.1) })
 
@@ -161,21 +165,36 @@ from_numbered Names item text s = record {
   second = (s.named, refl);
 }
 
-pub reads_numbered : {A : Type 0} {check : ℕ → ℕ → Result A ClassFault} {Names : ℕ → A → Type 0}
+-- a number, of which this is asked, and behind it what was found is given, as at its offset
+weighs_found : {A : Type 0} {weight : A → ℕ} {check : ℕ → ℕ → Result A ClassFault}
+    {Names : ℕ → A → Type 0} (give : ℕ → A → Position → Read A)
+    → ((at : ℕ) (item : A) → Weighs 0 weight (give at item) (Given item))
     → Finds check Names
-    → Reads (numbered_at check) (Numbered Names)
-unfolding numbered_at
-reads_numbered {check} {Names} finds =
+    → Weighs 0 weight
+    (λ p. number_at w16 p >>= λ n. check (offset p) n.0 >>= λ item. give (offset p) item n.1)
+    (Numbered Names)
+weighs_found {check} {Names} give law finds =
     reads_as (Numbered Names)
-    (reads_then_of (λ begun n rest. check (offset begun) n >>= λ item. Ok (item, rest))
+    (reads_then_of
+    (λ begun n rest. check (offset begun) n >>= λ item. give (offset begun) item rest)
     reads_short
     (λ begun n.
     reads_as (λ item rest. Names n.0 item × (rest ≡ []))
-    (reads_check (check (offset begun) n.0))
+    (weighs_check (check (offset begun) n.0) (give (offset begun)) (law (offset begun)))
     (λ item rest c. (finds.right (offset begun) n.0 item n.1 c.0, c.1))
     (λ item rest c. (finds.again (offset begun) n.0 item c.0, c.1))))
     (to_numbered Names)
     (from_numbered Names)
+
+pub weighs_numbered : {A : Type 0} {check : ℕ → ℕ → Result A ClassFault} {Names : ℕ → A → Type 0}
+    (weight : A → ℕ)
+    → Finds check Names
+    → Weighs 0 weight (numbered_at weight check) (Numbered Names)
+unfolding numbered_at
+weighs_numbered weight finds =
+    weighs_found (λ at item p. spent_at at (weight item) p >>= λ room. Ok (item, room.1))
+    (weighs_spent weight)
+    finds
 
 -- ---- texts and classes
 
@@ -201,25 +220,34 @@ finds_class pool = record {
       (from_class pool n name s);
 }
 
-pub reads_text : (pool : List Entry) (fault : List ℕ → Option ClassKind) (IsForm : List ℕ → Type 0)
+pub weighs_text : (pool : List Entry) (fault : List ℕ → Option ClassKind)
+    (IsForm : List ℕ → Type 0)
     → Tells fault IsForm
-    → Reads (text_at (rows_of pool) fault) (Numbered (NamesTextOf pool IsForm))
-reads_text pool fault IsForm law = reads_numbered (finds_text pool fault IsForm law)
+    → Weighs 0 length (text_at (rows_of pool) fault) (Numbered (NamesTextOf pool IsForm))
+weighs_text pool fault IsForm law = weighs_numbered length (finds_text pool fault IsForm law)
 
-pub reads_any_text : (pool : List Entry)
-    → Reads (text_at (rows_of pool) (form_fault form.AnyText))
+pub weighs_any_text : (pool : List Entry)
+    → Weighs 0 length (text_at (rows_of pool) (form_fault form.AnyText))
     (Numbered (NamesTextOf pool IsAnyText))
-reads_any_text pool = reads_text pool (form_fault form.AnyText) IsAnyText any_text_tells
+weighs_any_text pool = weighs_text pool (form_fault form.AnyText) IsAnyText any_text_tells
 
-pub reads_field_descriptor : (pool : List Entry)
-    → Reads (text_at (rows_of pool) (form_fault form.FieldDescriptor))
+pub weighs_field_descriptor : (pool : List Entry)
+    → Weighs 0 length (text_at (rows_of pool) (form_fault form.FieldDescriptor))
     (Numbered (NamesTextOf pool IsFieldDescriptor))
-reads_field_descriptor pool =
-    reads_text pool (form_fault form.FieldDescriptor) IsFieldDescriptor field_descriptor_tells
+weighs_field_descriptor pool =
+    weighs_text pool (form_fault form.FieldDescriptor) IsFieldDescriptor field_descriptor_tells
 
-pub reads_class : (pool : List Entry)
-    → Reads (class_at (rows_of pool)) (Numbered (NamesClassOf pool))
-reads_class pool = reads_numbered (finds_class pool)
+pub weighs_class : (pool : List Entry)
+    → Weighs 0 length (class_at (rows_of pool)) (Numbered (NamesClassOf pool))
+weighs_class pool = weighs_numbered length (finds_class pool)
+
+-- the name of an attribute counts for nothing
+pub reads_attribute_name : (pool : List Entry)
+    → Reads (attribute_name_at (rows_of pool)) (Numbered (NamesTextOf pool IsAnyText))
+unfolding attribute_name_at
+reads_attribute_name pool =
+    weighs_found (λ at name p. Ok (name, p)) (λ at name. reads_given name)
+    (finds_text pool (form_fault form.AnyText) IsAnyText any_text_tells)
 
 -- ---- the number 0, or something else
 
@@ -264,3 +292,9 @@ finds_or_zero {A} {check} {Names} finds none = record { right = right; again = a
     again at n (Some item) named =
         ap (λ b. cond b (fine None) (check at n >>= λ x. fine (Some x))) (above n item named)
         ∙ ap (λ (r : Result A ClassFault). r >>= λ x. fine (Some x)) (finds.again at n item named)
+
+pub weighs_optional : {check : ℕ → ℕ → Result (List ℕ) ClassFault} {Names : ℕ → List ℕ → Type 0}
+    → Finds check Names
+    → ((item : List ℕ) → Names 0 item → ⊥)
+    → Weighs 0 option_texts (optional_at check) (Numbered (OrZero Names))
+weighs_optional finds none = weighs_numbered option_texts (finds_or_zero finds none)

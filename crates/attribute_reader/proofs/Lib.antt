@@ -10,6 +10,7 @@ pub mod Keys
 pub mod KindNames
 pub mod ListLaws
 pub mod Loops
+pub mod Ordered
 pub mod Ranks
 pub mod SpelledAttributes
 pub mod ValueLaws

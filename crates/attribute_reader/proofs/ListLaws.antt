@@ -3,11 +3,13 @@ use Rattle.std.proofs.Common.{◌≡◌, ℕ, zero, suc, ◌+◌, ◌%◌, ◌^�
 use Rattle.std.proofs.Common.{refl, sym, ap, ◌∙◌, arith}
 use Rattle.std.specs.Int.{w8, to_be_bytes, from_be_bytes}
 use Rattle.class_desc.specs.Items.{CountedSpells, ForParametersSpell}
+use Rattle.class_desc.specs.Texts.{total}
+use Rattle.class_desc.proofs.Texts.{total_append}
 use Rattle.pool_reader.specs.Reading.{Position, Read, number_at, times}
-use Rattle.pool_reader.proofs.Laws.{IsBytes, Reads, reads_as, Given, reads_given, Then, joined}
-use Rattle.pool_reader.proofs.Laws.{reads_then, Several, reads_times}
-use Rattle.pool_reader.proofs.Numbers.{IsWide, NumberSpells, reads_number}
-use Rattle.pool_reader.proofs.Numbers.{reads_counted}
+use Rattle.pool_reader.proofs.Laws.{IsBytes, Weighs, Reads, reads_as, Given, weighs_given, Then}
+use Rattle.pool_reader.proofs.Laws.{joined, weighs_then, reads_then, Several, weighs_times}
+use Rattle.pool_reader.proofs.Laws.{counted_before}
+use Rattle.pool_reader.proofs.Numbers.{IsWide, NumberSpells, reads_number, weighs_counted}
 use Rattle.attribute_reader.specs.Items.{counted_at, for_parameters_at, growing}
 
 -- ---- a count of one byte
@@ -35,11 +37,12 @@ reads_u8 = reads_number w8 (2 ^ 8) wide8
 
 -- ---- lists
 
-pub reads_counted_at : {A : Type 0} {read : Position → Read A} {Spells : A → List ℕ → Type 0}
-    → Reads read Spells
-    → Reads (counted_at read) (CountedSpells Spells)
+pub weighs_counted_at : {A : Type 0} {weight : A → ℕ} {read : Position → Read A}
+    {Spells : A → List ℕ → Type 0}
+    → Weighs 0 weight read Spells
+    → Weighs 0 (total weight) (counted_at read) (CountedSpells Spells)
 unfolding counted_at
-reads_counted_at law = reads_counted law
+weighs_counted_at law = weighs_counted law
 
 to_for_parameters : {A : Type 0} (Spells : A → List ℕ → Type 0) (items : List A) (text : List ℕ)
     → Then (NumberSpells w8 (2 ^ 8)) (Several Spells) items text
@@ -63,13 +66,14 @@ from_for_parameters Spells items text s = record {
   second = record { length_is = refl; each = s.each };
 }
 
-pub reads_for_parameters : {A : Type 0} {read : Position → Read A} {Spells : A → List ℕ → Type 0}
-    → Reads read Spells
-    → Reads (for_parameters_at read) (ForParametersSpell Spells)
+pub weighs_for_parameters : {A : Type 0} {weight : A → ℕ} {read : Position → Read A}
+    {Spells : A → List ℕ → Type 0}
+    → Weighs 0 weight read Spells
+    → Weighs 0 (total weight) (for_parameters_at read) (ForParametersSpell Spells)
 unfolding for_parameters_at
-reads_for_parameters {read} {Spells} law =
+weighs_for_parameters {read} {Spells} law =
     reads_as (ForParametersSpell Spells)
-    (reads_then (λ begun count. times read count) reads_u8 (λ begun count. reads_times law count))
+    (reads_then (λ begun count. times read count) reads_u8 (λ begun count. weighs_times law count))
     (to_for_parameters Spells)
     (from_for_parameters Spells)
 
@@ -82,13 +86,15 @@ Grown Adds zero before all text = Given before all text
 Grown Adds (suc n) before all text =
     Then (Adds before) (λ more. Grown Adds n (before ++ more)) all text
 
-pub reads_growing : {A : Type 0} {read : List A → Position → Read (List A)}
+-- the texts of those before were counted before
+pub weighs_growing : {A : Type 0} (weight : A → ℕ) {read : List A → Position → Read (List A)}
     {Adds : List A → List A → List ℕ → Type 0}
-    → ((before : List A) → Reads (read before) (Adds before))
+    → ((before : List A) → Weighs 0 (total weight) (read before) (Adds before))
     → (n : ℕ) (before : List A)
-    → Reads (growing read before n) (Grown Adds n before)
+    → Weighs (total weight before) (total weight) (growing read before n) (Grown Adds n before)
 unfolding growing
-reads_growing law zero before = reads_given before
-reads_growing {read} law (suc n) before =
-    reads_then (λ begun more. growing read (before ++ more) n) (law before)
-    (λ begun more. reads_growing law n (before ++ more))
+weighs_growing weight law zero before = weighs_given before refl
+weighs_growing weight {read} law (suc n) before =
+    weighs_then (λ begun more. growing read (before ++ more) n) (law before)
+    (λ begun more.
+    counted_before (total_append weight before more) (weighs_growing weight law n (before ++ more)))

@@ -1,7 +1,7 @@
 -- Values and annotations.
 use Rattle.std.proofs.Common.{◌≡◌, ℕ, zero, suc, Bool, true, false, cond, eqb}
 use Rattle.std.proofs.Common.{List, [], ◌∷◌, ◌++◌, Option, Some, None, Ok, Err, refl, sym, ap}
-use Rattle.std.proofs.Common.{subst, ◌∙◌, inl, inr}
+use Rattle.std.proofs.Common.{subst, ◌∙◌, ◌+◌, length, inl, inr, arith}
 use Rattle.std.specs.Int.{w8}
 use Rattle.std.proofs.lemmas.Bool.{eqb-true}
 use Rattle.class_desc.specs.declared.annotation.AnnDesc.{AnnDesc, out-AnnDesc, roll-AnnDesc}
@@ -25,10 +25,13 @@ use Rattle.class_desc.specs.Forms.{IsAnyText, IsFieldDescriptor, IsReturnDescrip
 use Rattle.class_desc.specs.Items.{NamesTextOf, NamesConstant, Numbered, Both, Tagged}
 use Rattle.class_desc.specs.Items.{CountedSpells}
 use Rattle.class_desc.specs.Pool.{Entry, NamesText}
+use Rattle.class_desc.specs.Texts.{total, value_texts, annotation_texts, element_texts}
+use Rattle.class_desc.proofs.Texts.{value_made, annotation_made, element_made}
 use Rattle.pool_reader.specs.declared.fault.ClassKind.TheVariants.{F7, F12}
 use Rattle.pool_reader.specs.Reading.{◌>>=◌, Position, offset, Read, fault_at, told, number_at}
 use Rattle.pool_reader.specs.Pooled.{rows_of}
-use Rattle.pool_reader.proofs.Laws.{Reads, reads_as, Then, reads_then, Made, reads_made}
+use Rattle.pool_reader.proofs.Laws.{Weighs, reads_as, Then, weighs_then, reads_then, Made}
+use Rattle.pool_reader.proofs.Laws.{weighs_made}
 use Rattle.pool_reader.proofs.Laws.{Either, reads_if, Never, reads_never}
 use Rattle.pool_reader.proofs.Numbers.{ByteSpells, reads_byte}
 use Rattle.attribute_reader.specs.declared.constants.ConstantPlace.TheVariants as place
@@ -39,16 +42,17 @@ use Rattle.attribute_reader.specs.Values.{any_text_at, is_tag, element_at}
 use Rattle.attribute_reader.specs.Values.{annotation_over, enumerated_at, class_value_at}
 use Rattle.attribute_reader.specs.Values.{nested_at, list_at, constant_value_at, behind_tag}
 use Rattle.attribute_reader.specs.Values.{value_at, top_value_at, annotations_at}
-use Rattle.attribute_reader.proofs.ConstantLaws.{reads_constant}
+use Rattle.attribute_reader.proofs.ConstantLaws.{weighs_constant}
 use Rattle.attribute_reader.proofs.FormLaws.{return_descriptor_tells}
-use Rattle.attribute_reader.proofs.ItemLaws.{reads_text, reads_any_text, reads_field_descriptor}
-use Rattle.attribute_reader.proofs.ListLaws.{reads_counted_at}
+use Rattle.attribute_reader.proofs.ItemLaws.{weighs_text, weighs_any_text}
+use Rattle.attribute_reader.proofs.ItemLaws.{weighs_field_descriptor}
+use Rattle.attribute_reader.proofs.ListLaws.{weighs_counted_at}
 
 abbrev Layer : Type 0
 Layer = ElemValue-F ElemValue AnnDesc ElemPair
 
 module _ (pool : List Entry) {read : Position → Read ElemValue}
-    {ValueIs : ElemValue → List ℕ → Type 0} (law : Reads read ValueIs) where
+    {ValueIs : ElemValue → List ℕ → Type 0} (law : Weighs 0 value_texts read ValueIs) where
   -- ---- elements and annotations
 
   abbrev AnyText : List ℕ → List ℕ → Type 0
@@ -95,16 +99,18 @@ module _ (pool : List Entry) {read : Position → Read ElemValue}
     };
   }
 
-  pub reads_element : Reads (element_at (rows_of pool) read) (ElementSpells pool ValueIs)
+  pub reads_element : Weighs 0 element_texts (element_at (rows_of pool) read)
+      (ElementSpells pool ValueIs)
   unfolding element_at
   reads_element =
       reads_as (ElementSpells pool ValueIs)
-      (reads_then
+      (weighs_then
       (λ begun name rest. read rest >>= λ value.
       Ok (roll-ElemPair (record { name = name; value = value.0 }), value.1))
-      (reads_any_text pool)
-      (λ begun name. reads_made
-      (λ value. roll-ElemPair (record { name = name; value = value })) law))
+      (weighs_any_text pool)
+      (λ begun name. weighs_made
+      (λ value. roll-ElemPair (record { name = name; value = value }))
+      (λ value. omega (arith, element_made (record { name = name; value = value }))) law))
       to_element
       from_element
 
@@ -151,18 +157,22 @@ module _ (pool : List Entry) {read : Position → Read ElemValue}
     };
   }
 
-  pub reads_annotation : Reads (annotation_over (rows_of pool) read)
+  pub reads_annotation : Weighs 0 annotation_texts (annotation_over (rows_of pool) read)
       (AnnotationSpells pool ValueIs)
   unfolding annotation_over
   reads_annotation =
       reads_as (AnnotationSpells pool ValueIs)
-      (reads_then
+      (weighs_then
       (λ begun descriptor rest. counted_at (element_at (rows_of pool) read) rest >>= λ elements.
       Ok (roll-AnnDesc (record { descriptor = descriptor; elements = elements.0 }), elements.1))
-      (reads_field_descriptor pool)
-      (λ begun descriptor. reads_made
+      (weighs_field_descriptor pool)
+      (λ begun descriptor. weighs_made
       (λ elements. roll-AnnDesc (record { descriptor = descriptor; elements = elements }))
-      (reads_counted_at reads_element)))
+      (λ elements. omega (
+        arith,
+        annotation_made (record { descriptor = descriptor; elements = elements }),
+      ))
+      (weighs_counted_at reads_element)))
       to_annotation
       from_annotation
 
@@ -199,38 +209,62 @@ module _ (pool : List Entry) {read : Position → Read ElemValue}
   abbrev EnumeratedParts : ElemValue → List ℕ → Type 0
   EnumeratedParts = Then Descriptor (λ descriptor. Made (value.Enumerated descriptor) AnyText)
 
-  reads_enumerated : Reads (enumerated_at (rows_of pool)) EnumeratedParts
+  reads_enumerated : Weighs 0 value_texts (enumerated_at (rows_of pool)) EnumeratedParts
   unfolding enumerated_at
   reads_enumerated =
-      reads_then
+      weighs_then
       (λ begun descriptor rest. any_text_at (rows_of pool) rest >>= λ name.
       Ok (value.Enumerated descriptor name.0, name.1))
-      (reads_field_descriptor pool)
-      (λ begun descriptor. reads_made (value.Enumerated descriptor) (reads_any_text pool))
+      (weighs_field_descriptor pool)
+      (λ begun descriptor. weighs_made (value.Enumerated descriptor)
+      (λ name. omega (
+        arith,
+        value_made (ElemValue-F.Enumerated descriptor name) (value.Enumerated descriptor name)
+            (value.rolls-Enumerated descriptor name),
+      ))
+      (weighs_any_text pool))
 
   abbrev ClassParts : ElemValue → List ℕ → Type 0
   ClassParts = Made value.ClassOf (Numbered (NamesTextOf pool IsReturnDescriptor))
 
-  reads_class_value : Reads (class_value_at (rows_of pool)) ClassParts
+  reads_class_value : Weighs 0 value_texts (class_value_at (rows_of pool)) ClassParts
   unfolding class_value_at
   reads_class_value =
-      reads_made value.ClassOf
-      (reads_text pool (form_fault form.ReturnDescriptor) IsReturnDescriptor
+      weighs_made value.ClassOf
+      (λ descriptor. omega (
+        arith,
+        value_made (ElemValue-F.ClassOf descriptor) (value.ClassOf descriptor)
+            (value.rolls-ClassOf descriptor),
+      ))
+      (weighs_text pool (form_fault form.ReturnDescriptor) IsReturnDescriptor
       return_descriptor_tells)
 
   abbrev NestedParts : ElemValue → List ℕ → Type 0
   NestedParts = Made value.Nested (AnnotationSpells pool ValueIs)
 
-  reads_nested : Reads (nested_at (rows_of pool) read) NestedParts
+  reads_nested : Weighs 0 value_texts (nested_at (rows_of pool) read) NestedParts
   unfolding nested_at
-  reads_nested = reads_made value.Nested reads_annotation
+  reads_nested =
+      weighs_made value.Nested
+      (λ annotation. omega (
+        arith,
+        value_made (ElemValue-F.Nested annotation) (value.Nested annotation)
+            (value.rolls-Nested annotation),
+      ))
+      reads_annotation
 
   abbrev ListParts : ElemValue → List ℕ → Type 0
   ListParts = Made value.List (CountedSpells ValueIs)
 
-  reads_list : Reads (list_at read) ListParts
+  reads_list : Weighs 0 value_texts (list_at read) ListParts
   unfolding list_at
-  reads_list = reads_made value.List (reads_counted_at law)
+  reads_list =
+      weighs_made value.List
+      (λ values. omega (
+        arith,
+        value_made (ElemValue-F.List values) (value.List values) (value.rolls-List values),
+      ))
+      (weighs_counted_at law)
 
   abbrev ConstantParts : ℕ → Option ConstantKind → ElemValue → List ℕ → Type 0
   ConstantParts tag kind =
@@ -240,14 +274,21 @@ module _ (pool : List Entry) {read : Position → Read ElemValue}
   none_named tag item text s = s.spells.named
 
   reads_constant_value : (tag at : ℕ) (kind : Option ConstantKind)
-      → Reads (constant_value_at (rows_of pool) kind tag at) (ConstantParts tag kind)
+      → Weighs 0 value_texts (constant_value_at (rows_of pool) kind tag at)
+      (ConstantParts tag kind)
   unfolding constant_value_at
   reads_constant_value tag at None =
       reads_as (ConstantParts tag None) (reads_never (λ p. fault_at at F7))
       (λ item text s. absurd s)
       (λ item text s. none_named tag item text s)
   reads_constant_value tag at (Some kind) =
-      reads_made (value.Const tag) (reads_constant pool place.Element (Some kind))
+      weighs_made (value.Const tag)
+      (λ constant. omega (
+        arith,
+        value_made (ElemValue-F.Const tag constant) (value.Const tag constant)
+            (value.rolls-Const tag constant),
+      ))
+      (weighs_constant pool place.Element (Some kind))
 
   -- ---- behind a tag
 
@@ -386,7 +427,7 @@ module _ (pool : List Entry) {read : Position → Read ElemValue}
       ))
 
   reads_behind : (tag at : ℕ)
-      → Reads (behind_tag (rows_of pool) read tag at) (Behind tag)
+      → Weighs 0 value_texts (behind_tag (rows_of pool) read tag at) (Behind tag)
   unfolding behind_tag
   reads_behind tag at =
       reads_as (Behind tag)
@@ -467,7 +508,7 @@ module _ (pool : List Entry) {read : Position → Read ElemValue}
   OneMore item text = LayerSpells pool ValueIs (out-ElemValue item) text
 
   -- a value in which values are read so
-  reads_tagged : Reads
+  reads_tagged : Weighs 0 value_texts
       (λ p. number_at w8 p >>= λ tag. behind_tag (rows_of pool) read tag.0 (offset p) tag.1)
       OneMore
   reads_tagged =
@@ -485,7 +526,7 @@ never : (test : Bool) (item : ElemValue) (text : List ℕ) → Either test Never
 never test item text (inl s) = s.1
 never test item text (inr s) = s.1
 
-none_left : Reads
+none_left : Weighs 0 value_texts
     (λ p. number_at w8 p >>= λ tag.
     cond (is_tag tag.0) (Err (told p F12)) (Err (told p F7)))
     (λ (item : ElemValue) text. ⊥)
@@ -501,15 +542,15 @@ none_left =
     (λ item text s. absurd s)
 
 pub reads_value : (pool : List Entry) (left : ℕ)
-    → Reads (value_at (rows_of pool) left) (ValueSpells pool left)
+    → Weighs 0 value_texts (value_at (rows_of pool) left) (ValueSpells pool left)
 unfolding value_at
 reads_value pool zero = none_left
 reads_value pool (suc left) = reads_tagged pool (reads_value pool left)
 
 pub reads_top_value : (pool : List Entry)
-    → Reads (top_value_at (rows_of pool)) (TopValueSpells pool)
+    → Weighs 0 value_texts (top_value_at (rows_of pool)) (TopValueSpells pool)
 reads_top_value pool = reads_value pool DEEPEST_VALUE
 
 pub reads_annotations : (pool : List Entry)
-    → Reads (annotations_at (rows_of pool)) (AnnotationsSpell pool)
-reads_annotations pool = reads_counted_at (reads_annotation pool (reads_top_value pool))
+    → Weighs 0 (total annotation_texts) (annotations_at (rows_of pool)) (AnnotationsSpell pool)
+reads_annotations pool = weighs_counted_at (reads_annotation pool (reads_top_value pool))

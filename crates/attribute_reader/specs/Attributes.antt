@@ -1,6 +1,7 @@
 -- Reading attributes (JVMS 4.7): the bodies of those that a description keeps; the others are
 -- passed over.
-use Rattle.std.specs.Prelude.{ℕ, List, [], ◌∷◌, map, Option, Some, None, Result, Ok, Err}
+use Rattle.std.specs.Prelude.{◌≡◌, ℕ, List, [], ◌∷◌, length, map, Option, Some, None, Result, Ok}
+use Rattle.std.specs.Prelude.{Err}
 use Rattle.std.specs.Prelude.{if◌then◌else◌}
 use Rattle.std.specs.Int.{w16, w32}
 use Rattle.std.specs.List.{list_any}
@@ -24,15 +25,18 @@ use Rattle.pool_reader.specs.Pooled.{Row}
 use Rattle.attribute_reader.specs.declared.constants.ConstantPlace.TheVariants as constant
 use Rattle.attribute_reader.specs.declared.forms.Form.TheVariants as form
 use Rattle.attribute_reader.specs.Forms.{form_fault}
-use Rattle.attribute_reader.specs.Items.{numbered_at, text_checked, class_checked, or_zero}
-use Rattle.attribute_reader.specs.Items.{constant_checked, text_at, class_at, counted_at}
-use Rattle.attribute_reader.specs.Items.{for_parameters_at, growing}
-use Rattle.attribute_reader.specs.Values.{any_text_at, field_descriptor_at, top_value_at}
-use Rattle.attribute_reader.specs.Values.{annotations_at}
+use Rattle.attribute_reader.specs.Items.{text_checked, class_checked, numbered_at, text_at}
+use Rattle.attribute_reader.specs.Items.{class_at, constant_at, optional_at, attribute_name_at}
+use Rattle.attribute_reader.specs.Items.{counted_at, for_parameters_at, growing}
+use Rattle.attribute_reader.specs.Values.{field_descriptor_at, top_value_at, annotations_at}
 
 -- that this text is none of those that were seen: told at this offset
 abbrev pub unseen : ℕ → List ℕ → List (List ℕ) → Result (Unit {0}) ClassFault
 unseen at text seen = if list_any (is_text text) seen then Err (fault_at at F9) else Ok tt
+
+-- the lists have the same texts, in whatever order
+abbrev pub HaveSame : List (List ℕ) → List (List ℕ) → Type 0
+HaveSame a b = (text : List ℕ) → list_any (is_text text) a ≡ list_any (is_text text) b
 
 -- an item that is made of the one that is read
 abbrev pub made_at : {A B : Type 0} → (A → B) → Read A → Read B
@@ -41,17 +45,18 @@ made_at make read = read >>= λ item. Ok (make item.0, item.1)
 -- ---- the bodies
 
 abbrev pub name_or_zero_at : List Row → Position → Read (Option (List ℕ))
-name_or_zero_at rows = numbered_at (or_zero (text_checked rows (form_fault form.AnyText)))
+name_or_zero_at rows = optional_at (text_checked rows (form_fault form.AnyText))
 
 abbrev pub class_or_zero_at : List Row → Position → Read (Option (List ℕ))
-class_or_zero_at rows = numbered_at (or_zero (class_checked rows))
+class_or_zero_at rows = optional_at (class_checked rows)
 
 -- a class that no entry before has (JVMS 4.7.6)
-unfoldable pub inner_name_at : List Row → List (List ℕ) → Position → Read (List ℕ)
-inner_name_at rows seen p = do
-  inner ← class_at rows p
-  new ← unseen (offset p) inner.0 seen
-  Ok inner
+abbrev pub new_class_checked : List Row → List (List ℕ) → ℕ → ℕ → Result (List ℕ) ClassFault
+new_class_checked rows seen at n =
+    class_checked rows at n >>= λ name. unseen at name seen >>= λ new. Ok name
+
+abbrev pub inner_name_at : List Row → List (List ℕ) → Position → Read (List ℕ)
+inner_name_at rows seen = numbered_at length (new_class_checked rows seen)
 
 -- an entry of InnerClasses, of a class that was not seen (JVMS 4.7.6)
 unfoldable pub inner_class_at : List Row → List (List ℕ) → Position → Read InnerEntry
@@ -102,7 +107,7 @@ module _ (rows : List Row) (component : Position → Read ComponentDesc) where
   abbrev pub body_of : Place → List ℕ → AttributeKind → Position → Read Attr
   body_of place descriptor kind.ConstantValue p =
       made_at attr.ConstantValue
-      (numbered_at (constant_checked constant.Field rows (field_constant descriptor)) p)
+      (constant_at constant.Field rows (field_constant descriptor) p)
   body_of place descriptor kind.Exceptions p =
       made_at attr.Exceptions (counted_at (class_at rows) p)
   body_of place descriptor kind.Signature p =
@@ -141,7 +146,7 @@ module _ (rows : List Row) (component : Position → Read ComponentDesc) where
   -- an attribute behind those that were kept before, if this one is kept
   unfoldable pub attribute_at : Place → List ℕ → List Attr → Position → Read (List Attr)
   attribute_at place descriptor before p = do
-    name ← any_text_at rows p
+    name ← attribute_name_at rows p
     behind_name place descriptor (map attribute_name before) (offset p) name.0
         (kept_kind place name.0) name.1
 

@@ -1,5 +1,5 @@
 -- Reading items that are numbers of the pool, and lists of items.
-use Rattle.std.specs.Prelude.{ℕ, zero, suc, ◌==◌, List, ◌++◌, Option, Some, None}
+use Rattle.std.specs.Prelude.{ℕ, zero, suc, ◌==◌, List, ◌++◌, length, Option, Some, None}
 use Rattle.std.specs.Prelude.{Result, Ok, Err, if◌then◌else◌}
 use Rattle.std.specs.Int.{w8, w16}
 use Rattle.class_desc.specs.declared.constant_kind.ConstantKind.{ConstantKind}
@@ -9,10 +9,12 @@ use Rattle.class_desc.specs.declared.constant_kind.NumberKind.TheVariants as num
 use Rattle.class_desc.specs.declared.value.Value.{Value}
 use Rattle.class_desc.specs.declared.value.Value.TheVariants as value
 use Rattle.class_desc.specs.Constants.{number_value}
+use Rattle.class_desc.specs.Texts.{option_texts, constant_texts}
 use Rattle.pool_reader.specs.declared.fault.ClassKind.{ClassKind}
 use Rattle.pool_reader.specs.declared.fault.ClassKind.TheVariants.{F5}
 use Rattle.pool_reader.specs.declared.fault.ClassFault.{ClassFault}
-use Rattle.pool_reader.specs.Reading.{◌>>=◌, Position, offset, Read, fault_at, number_at, times}
+use Rattle.pool_reader.specs.Reading.{◌>>=◌, Position, offset, Read, fault_at, number_at}
+use Rattle.pool_reader.specs.Reading.{spent_at, times}
 use Rattle.pool_reader.specs.Pooled.{Row, IntegerRow, FloatRow, LongRow}
 use Rattle.pool_reader.specs.Pooled.{DoubleRow, StringRow, row_in}
 use Rattle.pool_reader.specs.Pooled.{text_named, class_named}
@@ -89,18 +91,34 @@ constant_checked place rows kind at n = told_at at (constant_named place rows ki
 
 -- ---- items
 
--- a number, of which this is asked
-unfoldable pub numbered_at : {A : Type 0} → (ℕ → ℕ → Result A ClassFault) → Position → Read A
-numbered_at check p = do
+-- A number, of which this is asked. Last of all there has to be room for the texts of what it names.
+unfoldable pub numbered_at : {A : Type 0} → (A → ℕ) → (ℕ → ℕ → Result A ClassFault) → Position
+    → Read A
+numbered_at texts check p = do
   n ← number_at w16 p
   item ← check (offset p) n.0
-  Ok (item, n.1)
+  room ← spent_at (offset p) (texts item) n.1
+  Ok (item, room.1)
 
 abbrev pub text_at : List Row → (List ℕ → Option ClassKind) → Position → Read (List ℕ)
-text_at rows fault = numbered_at (text_checked rows fault)
+text_at rows fault = numbered_at length (text_checked rows fault)
 
 abbrev pub class_at : List Row → Position → Read (List ℕ)
-class_at rows = numbered_at (class_checked rows)
+class_at rows = numbered_at length (class_checked rows)
+
+abbrev pub constant_at : ConstantPlace → List Row → Option ConstantKind → Position → Read Value
+constant_at place rows kind = numbered_at constant_texts (constant_checked place rows kind)
+
+-- the number 0, or what else is asked
+abbrev pub optional_at : (ℕ → ℕ → Result (List ℕ) ClassFault) → Position → Read (Option (List ℕ))
+optional_at check = numbered_at option_texts (or_zero check)
+
+-- the name of an attribute, which stands in no description
+unfoldable pub attribute_name_at : List Row → Position → Read (List ℕ)
+attribute_name_at rows p = do
+  n ← number_at w16 p
+  name ← text_checked rows (form_fault form.AnyText) (offset p) n.0
+  Ok (name, n.1)
 
 -- ---- lists
 

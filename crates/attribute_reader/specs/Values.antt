@@ -16,7 +16,7 @@ use Rattle.pool_reader.specs.Pooled.{Row}
 use Rattle.attribute_reader.specs.declared.constants.ConstantPlace.TheVariants as place
 use Rattle.attribute_reader.specs.declared.forms.Form.TheVariants as form
 use Rattle.attribute_reader.specs.Forms.{form_fault}
-use Rattle.attribute_reader.specs.Items.{numbered_at, constant_checked, text_at, counted_at}
+use Rattle.attribute_reader.specs.Items.{constant_at, text_at, counted_at}
 
 abbrev pub any_text_at : List Row → Position → Read (List ℕ)
 any_text_at rows = text_at rows (form_fault form.AnyText)
@@ -75,7 +75,7 @@ unfoldable pub constant_value_at : List Row → Option ConstantKind → ℕ → 
     → Read ElemValue
 constant_value_at rows None tag tag_at p = Err (fault_at tag_at F7)
 constant_value_at rows (Some kind) tag tag_at p = do
-  constant ← numbered_at (constant_checked place.Element rows (Some kind)) p
+  constant ← constant_at place.Element rows (Some kind) p
   Ok (value.Const tag constant.0, constant.1)
 
 unfoldable pub behind_tag : List Row → (Position → Read ElemValue) → ℕ → ℕ → Position

@@ -2,7 +2,7 @@
 ghost use Rattle.std.specs.Prelude.{◌≡◌, [], ◌++◌, map, OnOk};
 ghost use Rattle.std.specs.List.{cons_option, list_any};
 ghost use Rattle.java_names.specs.Names.{is_text};
-ghost use Rattle.class_desc.specs.Places.{attribute_name};
+ghost use Rattle.class_desc.specs.Places.{attribute_name as attribute_name_of};
 ghost use Rattle.pool_reader.specs.Reading.{Gives, Answers, within, times};
 ghost use Rattle.attribute_reader.specs.Items.{counted_at, growing};
 ghost use Rattle.attribute_reader.specs.Attributes.{unseen, passed_body_at};
@@ -12,7 +12,7 @@ ghost use Rattle.attribute_reader.specs.Attributes.{attribute_at, attributes_at}
 
 use crate::bodies::inner_classes;
 use crate::constants::{ConstantPlace, constant};
-use crate::forms::Form;
+use crate::forms::{Form, attribute_name};
 use crate::lists::{class_names, counted, for_parameters};
 use crate::values::top_value;
 use class_desc::{Attr, AttributeKind, ComponentDesc, ConstantKind, Place};
@@ -25,14 +25,14 @@ const LEAST_COMPONENT: usize = 6;
 
 /// Whether one of these has the name.
 fn is_named(before: &[Attr], name: &[u8]) -> bool
-    ensures { result ≡ list_any (λ attr. is_text name.now (attribute_name attr)) before.now }
+    ensures { result ≡ list_any (λ attr. is_text name.now (attribute_name_of attr)) before.now }
 {
     before.iter().any(|attr| name == attr.name())
 }
 
 /// That none of these has the name, which stands at this offset.
 fn check_new(before: &[Attr], at: u32, name: &[u8]) -> Result<(), ReadErr>
-    ensures { Answers (λ _. tt) result (unseen at name.now (map attribute_name before.now)) }
+    ensures { Answers (λ _. tt) result (unseen at name.now (map attribute_name_of before.now)) }
 {
     if is_named(before, name) {
         return Err(ClassKind::F9.at(at));
@@ -115,7 +115,7 @@ fn attribute(
         reader.old) }
 {
     let at = reader.offset();
-    let name = Form::AnyText.text(reader, pool)?;
+    let name = attribute_name(reader, pool)?;
     match place.kept(name) {
         None => {
             pass_body(reader)?;
@@ -144,7 +144,7 @@ fn kept(
 {
     let mut body = reader.body()?;
     let attr = body_of(&mut body, alloc, pool, place, descriptor, kind)?;
-    body.finish()?;
+    reader.leave(&body)?;
     Ok(attr)
 }
 

@@ -3,18 +3,19 @@ ghost use Rattle.std.specs.Prelude.{◌≡◌, [], ◌∷◌, ◌++◌, map, IfO
 ghost use Rattle.pool_reader.specs.Reading.{Answers, Gives};
 ghost use Rattle.attribute_reader.specs.Items.{growing, text_checked, class_checked, or_zero};
 ghost use Rattle.attribute_reader.specs.Forms.{form_fault};
-ghost use Rattle.attribute_reader.specs.Attributes.{unseen, name_or_zero_at, class_or_zero_at};
+ghost use Rattle.attribute_reader.specs.Attributes.{unseen, HaveSame};
+ghost use Rattle.attribute_reader.specs.Attributes.{name_or_zero_at, class_or_zero_at};
 ghost use Rattle.attribute_reader.specs.Attributes.{inner_name_at, inner_class_at};
 ghost use Rattle.attribute_reader.specs.Attributes.{next_inner_class_at, inner_classes_at};
 ghost use Rattle.attribute_reader.specs.Attributes.{parameter_at};
 
-use crate::forms::{Form, class_name, class_of_number};
+use crate::forms::{Form, class_of_number};
 use crate::lists::FromReader;
 use class_desc::{InnerEntry, ParamEntry};
 use hdr_core::{List, Text};
-use indexmap::IndexSet;
 use pool_reader::{ClassKind, Pool, ReadErr, Reader};
 use std::alloc::Global;
+use std::collections::BTreeSet;
 use std::marker::Model;
 
 /// The bytes of an entry of InnerClasses.
@@ -32,9 +33,11 @@ fn name_or_zero(
     let at = reader.offset();
     let number = reader.u16()?;
     if number == 0 {
+        reader.spend(at, 0)?;
         return Ok(None);
     }
     let text = Form::AnyText.of_number(pool, at, number)?;
+    reader.spend(at, text.len())?;
     Ok(Some(Text::of(alloc, text)?))
 }
 
@@ -50,22 +53,25 @@ fn class_or_zero(
     let at = reader.offset();
     let number = reader.u16()?;
     if number == 0 {
+        reader.spend(at, 0)?;
         return Ok(None);
     }
     let name = class_of_number(pool, at, number)?;
+    reader.spend(at, name.len())?;
     Ok(Some(Text::of(alloc, name)?))
 }
 
 /// What tells the entries of InnerClasses apart.
-#[derive(Clone, Copy, PartialEq, Eq, Hash)]
+#[derive(Clone, Copy, PartialEq, Eq, PartialOrd, Ord)]
 struct InnerKey<'a> {
     name: &'a [u8],
 }
 
-/// The inner classes so far.
+/// The inner classes so far, in the order of their names: a table by hashes would be slow for
+/// names that are picked so that theirs collide.
 #[derive(Drop)]
 struct SeenClasses<'a> {
-    keys: IndexSet<InnerKey<'a>>,
+    keys: BTreeSet<InnerKey<'a>>,
 }
 
 impl<'a> Model for SeenClasses<'a> {
@@ -81,14 +87,14 @@ impl<'a> SeenClasses<'a> {
         ensures { result ≡ [] }
     {
         SeenClasses {
-            keys: IndexSet::new(alloc),
+            keys: BTreeSet::new(alloc),
         }
     }
 
     /// Adds a class, whose number stands at this offset. It is a fault where it was added before.
     fn add(&mut self, at: u32, name: &'a [u8]) -> Result<(), ReadErr>
         ensures unseen { Answers (λ _. tt) result (unseen at name.now self.old) }
-        ensures seen { OnOk result (self.new ≡ self.old ++ name.now ∷ []) }
+        ensures seen { OnOk result (HaveSame self.new (self.old ++ name.now ∷ [])) }
     {
         if self.keys.insert(InnerKey { name })? {
             Ok(())
@@ -99,7 +105,7 @@ impl<'a> SeenClasses<'a> {
 }
 
 /// The class of an entry, which none before it has.
-#[tactic(auto, unfolding(crate::specs::Attributes::inner_name_at))]
+#[tactic(auto, unfolding(crate::specs::Items::numbered_at))]
 fn inner_name<'a>(
     reader: &mut Reader<'_>,
     pool: &Pool<'a>,
@@ -107,11 +113,13 @@ fn inner_name<'a>(
 ) -> Result<&'a [u8], ReadErr>
     ensures name { Gives (λ name. name.now) result reader.new
         (inner_name_at pool.now seen.old reader.old) }
-    ensures seen { IfOk result (λ name. seen.new ≡ seen.old ++ name.now ∷ []) }
+    ensures seen { IfOk result (λ name. HaveSame seen.new (seen.old ++ name.now ∷ [])) }
 {
     let at = reader.offset();
-    let name = class_name(reader, pool)?;
+    let number = reader.u16()?;
+    let name = class_of_number(pool, at, number)?;
     seen.add(at, name)?;
+    reader.spend(at, name.len())?;
     Ok(name)
 }
 
@@ -125,7 +133,7 @@ fn inner_class<'a>(
 ) -> Result<InnerEntry, ReadErr>
     ensures entry { Gives (λ entry. entry) result reader.new
         (inner_class_at pool.now seen.old reader.old) }
-    ensures seen { IfOk result (λ entry. seen.new ≡ seen.old ++ entry.inner ∷ []) }
+    ensures seen { IfOk result (λ entry. HaveSame seen.new (seen.old ++ entry.inner ∷ [])) }
 {
     let inner = inner_name(reader, pool, seen)?;
     let outer = class_or_zero(reader, alloc, pool)?;

@@ -1,10 +1,11 @@
 //! Constants of fields and of elements (JVMS 4.7.2, 4.7.16.1).
 ghost use Rattle.std.specs.Prelude.{◌≡◌, option_map};
+ghost use Rattle.class_desc.specs.Texts.{constant_texts};
 ghost use Rattle.pool_reader.specs.Pooled.{row_in};
 ghost use Rattle.pool_reader.specs.Reading.{Answers, Gives};
 ghost use Rattle.pool_reader.specs.Seen.{row_seen, text_seen};
 ghost use Rattle.attribute_reader.specs.Items.{number_of_row, string_named, constant_text};
-ghost use Rattle.attribute_reader.specs.Items.{constant_checked, numbered_at, told_at};
+ghost use Rattle.attribute_reader.specs.Items.{constant_checked, constant_at, told_at};
 
 use class_desc::{ConstantKind, NumberKind, Value};
 use hdr_core::Text;
@@ -86,6 +87,16 @@ fn constant_of(
     }
 }
 
+/// How many bytes the text of a constant has.
+fn text_len(value: &Value) -> usize
+    ensures { result ≡ constant_texts value.now }
+{
+    match value {
+        Value::Str(text) => text.bytes().len(),
+        Value::Integer(_) | Value::Long(_) | Value::Raw32(_) | Value::Raw64(_) => 0,
+    }
+}
+
 /// The number of a constant of this kind, if there is one.
 #[tactic(auto, unfolding(crate::specs::Items::numbered_at))]
 pub fn constant(
@@ -96,9 +107,11 @@ pub fn constant(
     kind: Option<ConstantKind>,
 ) -> Result<Value, ReadErr>
     ensures { Gives (λ value. value) result reader.new
-        (numbered_at (constant_checked place pool.now kind) reader.old) }
+        (constant_at place pool.now kind reader.old) }
 {
     let at = reader.offset();
     let number = reader.u16()?;
-    constant_of(alloc, pool, place, kind, at, number)
+    let value = constant_of(alloc, pool, place, kind, at, number)?;
+    reader.spend(at, text_len(&value))?;
+    Ok(value)
 }

@@ -8,7 +8,7 @@ ghost use Rattle.attribute_reader.specs.Forms.{form_fault, unless as unless_of, 
 ghost use Rattle.attribute_reader.specs.Forms.{is_method_descriptor as is_method_descriptor_of};
 ghost use Rattle.attribute_reader.specs.Forms.{is_return_descriptor as is_return_descriptor_of};
 ghost use Rattle.attribute_reader.specs.Items.{checked, text_checked, text_at, class_checked};
-ghost use Rattle.attribute_reader.specs.Items.{class_at};
+ghost use Rattle.attribute_reader.specs.Items.{class_at, attribute_name_at};
 
 use class_desc::Place;
 use descriptor_scan::{is_field_descriptor, parameter_slots};
@@ -88,7 +88,9 @@ impl Form {
     {
         let at = reader.offset();
         let number = reader.u16()?;
-        self.of_number(pool, at, number)
+        let text = self.of_number(pool, at, number)?;
+        reader.spend(at, text.len())?;
+        Ok(text)
     }
 
     /// The text of this number, which stands at this offset.
@@ -114,6 +116,16 @@ impl Form {
     }
 }
 
+/// The number of the name of an attribute, which no description has as a text.
+#[tactic(auto, unfolding(crate::specs::Items::attribute_name_at))]
+pub fn attribute_name<'a>(reader: &mut Reader<'_>, pool: &Pool<'a>) -> Result<&'a [u8], ReadErr>
+    ensures { Gives (λ name. name.now) result reader.new (attribute_name_at pool.now reader.old) }
+{
+    let at = reader.offset();
+    let number = reader.u16()?;
+    Form::AnyText.of_number(pool, at, number)
+}
+
 /// The number of a class, whose name it gives.
 #[tactic(auto, unfolding(crate::specs::Items::numbered_at))]
 pub fn class_name<'a>(reader: &mut Reader<'_>, pool: &Pool<'a>) -> Result<&'a [u8], ReadErr>
@@ -121,7 +133,9 @@ pub fn class_name<'a>(reader: &mut Reader<'_>, pool: &Pool<'a>) -> Result<&'a [u
 {
     let at = reader.offset();
     let number = reader.u16()?;
-    class_of_number(pool, at, number)
+    let name = class_of_number(pool, at, number)?;
+    reader.spend(at, name.len())?;
+    Ok(name)
 }
 
 /// The name of the class of this number, which stands at this offset.

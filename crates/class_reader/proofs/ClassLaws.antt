@@ -1,8 +1,8 @@
 -- The whole class: what is read is spelled, and what is spelled is read.
-use Rattle.std.proofs.Common.{◌≡◌, ℕ, ◌+◌, Bool, true, false, cond, eqb, List, []}
+use Rattle.std.proofs.Common.{◌≡◌, ℕ, ◌+◌, ◌-◌, Bool, true, false, cond, eqb, List, []}
 use Rattle.std.proofs.Common.{◌++◌}
-use Rattle.std.proofs.Common.{length, Option, None, Result, Ok, Err, refl, sym, ap, subst, ◌∙◌}
-use Rattle.std.proofs.Common.{append_assoc, append-nil}
+use Rattle.std.proofs.Common.{length, Option, Result, Ok, Err, refl, sym, ap, subst, ◌∙◌}
+use Rattle.std.proofs.Common.{append_assoc, append-nil, arith}
 use Rattle.std.specs.Prelude.{IfOk}
 use Rattle.std.specs.List.{flat_map}
 use Rattle.std.specs.Int.{w16, w32, to_be_bytes}
@@ -12,6 +12,7 @@ use Rattle.class_desc.specs.declared.attribute.Attr.{Attr}
 use Rattle.class_desc.specs.declared.class.ClassDesc.{ClassDesc}
 use Rattle.class_desc.specs.declared.class.FieldDesc.{FieldDesc}
 use Rattle.class_desc.specs.declared.class.MethodDesc.{MethodDesc}
+use Rattle.class_desc.specs.declared.limits.TheConstants.{MOST_TEXT}
 use Rattle.class_desc.specs.declared.place.Place.TheVariants as place
 use Rattle.class_desc.specs.Pool.{Entry, entry_bytes, numbered}
 use Rattle.class_desc.specs.ClassFile.{magic, FieldSpells, MethodSpells, field_key}
@@ -19,14 +20,15 @@ use Rattle.class_desc.specs.Items.{NamesClassOf, Numbered}
 use Rattle.class_desc.specs.ClassFile.{method_key}
 use Rattle.class_desc.specs.Attributes.{AttributesSpell}
 use Rattle.class_desc.specs.ClassFile.{Parts, SpellsOver, ClassSpells}
-use Rattle.pool_reader.specs.declared.fault.ClassKind.TheVariants.{F10}
+use Rattle.class_desc.specs.Texts.{total, option_texts, field_texts, class_texts}
 use Rattle.pool_reader.specs.declared.fault.ClassFault.{ClassFault}
 use Rattle.pool_reader.specs.declared.fault.ReadErr.{ReadErr}
-use Rattle.pool_reader.specs.Reading.{◌>>=◌, Position, start, Read, Answers, told}
+use Rattle.pool_reader.specs.Reading.{◌>>=◌, Position, left_with, start, Read, Answers, left_over}
+use Rattle.pool_reader.specs.Reading.{ended}
 use Rattle.pool_reader.specs.Pooled.{rows_of, pool_at}
-use Rattle.pool_reader.proofs.Laws.{IsBytes, bind_ok, ok_is, Reads, reads_as, reads_same}
-use Rattle.pool_reader.proofs.Laws.{regrouped_step}
-use Rattle.pool_reader.proofs.Laws.{Then, joined, reads_then, reads_then_of, Made, reads_made}
+use Rattle.pool_reader.proofs.Laws.{IsBytes, bind_ok, ok_is, Weighs, counted_before, reads_as}
+use Rattle.pool_reader.proofs.Laws.{reads_same, regrouped_step, Then, joined, weighs_then}
+use Rattle.pool_reader.proofs.Laws.{reads_then, reads_then_of, Made, weighs_made}
 use Rattle.pool_reader.proofs.Rows.{PoolSpells, reads_pool}
 use Rattle.class_reader.specs.Reading.{class_flags_at, super_at}
 use Rattle.class_reader.specs.Reading.{interfaces_at}
@@ -35,7 +37,7 @@ use Rattle.class_reader.specs.Reading.{class_over_at, file_at, class_of}
 use Rattle.attribute_reader.specs.Attributes.{attributes_at}
 use Rattle.attribute_reader.specs.Items.{class_at}
 use Rattle.attribute_reader.proofs.AttributeLaws.{reads_of_class}
-use Rattle.attribute_reader.proofs.ItemLaws.{reads_class}
+use Rattle.attribute_reader.proofs.ItemLaws.{weighs_class}
 use Rattle.class_reader.proofs.HeadLaws.{VersionSpells, reads_version, FlagsSpell, reads_flags}
 use Rattle.class_reader.proofs.HeadLaws.{SuperSpells}
 use Rattle.class_reader.proofs.HeadLaws.{reads_super, InterfacesSpell, reads_interfaces}
@@ -85,15 +87,19 @@ module _ (version : ℕ × ℕ) (pool : List Entry) where
       attributes_at (rows_of pool) place.Class [] methods.1 >>= λ attrs.
       Ok (of_head h fields methods.0 attrs.0, attrs.1)
 
+  -- what stands in front of the fields was counted, and the fields
   reads_from_methods : (h : Head) (fields : List FieldDesc)
-      → Reads (methods_on h fields) (FromMethods h fields)
+      → Weighs
+      (length h.1 + option_texts h.2 + total length h.3 + total field_texts fields) class_texts
+      (methods_on h fields) (FromMethods h fields)
   reads_from_methods h fields =
-      reads_then
+      weighs_then
       (λ begun methods rest. attributes_at (rows_of pool) place.Class [] rest >>= λ attrs.
       Ok (of_head h fields methods attrs.0, attrs.1))
       (reads_methods pool)
       (λ begun methods.
-      reads_made (λ attrs. of_head h fields methods attrs) (reads_of_class pool []))
+      weighs_made (λ attrs. of_head h fields methods attrs) (λ attrs. omega arith)
+      (reads_of_class pool []))
 
   abbrev interfaces_on : ℕ → List ℕ → Option (List ℕ) → Position → Read ClassDesc
   interfaces_on flags name super p =
@@ -102,14 +108,15 @@ module _ (version : ℕ × ℕ) (pool : List Entry) where
       methods_on (flags, name, super, interfaces.0) fields.0 fields.1
 
   reads_from_interfaces : (flags : ℕ) (name : List ℕ) (super : Option (List ℕ))
-      → Reads (interfaces_on flags name super) (FromInterfaces flags name super)
+      → Weighs (length name + option_texts super) class_texts (interfaces_on flags name super)
+      (FromInterfaces flags name super)
   reads_from_interfaces flags name super =
-      reads_then
+      weighs_then
       (λ begun interfaces rest. fields_at (rows_of pool) rest >>= λ fields.
       methods_on (flags, name, super, interfaces) fields.0 fields.1)
       (reads_interfaces pool)
       (λ begun interfaces.
-      reads_then (λ later fields rest. methods_on (flags, name, super, interfaces) fields rest)
+      weighs_then (λ later fields rest. methods_on (flags, name, super, interfaces) fields rest)
       (reads_fields pool)
       (λ later fields. reads_from_methods (flags, name, super, interfaces) fields))
 
@@ -119,7 +126,7 @@ module _ (version : ℕ × ℕ) (pool : List Entry) where
       super_at (rows_of pool) name.0 name.1 >>= λ super.
       interfaces_on flags.0 name.0 super.0 super.1
 
-  reads_from_flags : Reads flags_on FromFlags
+  reads_from_flags : Weighs 0 class_texts flags_on FromFlags
   reads_from_flags =
       reads_then
       (λ begun flags rest. class_at (rows_of pool) rest >>= λ name.
@@ -127,13 +134,14 @@ module _ (version : ℕ × ℕ) (pool : List Entry) where
       interfaces_on flags name.0 super.0 super.1)
       reads_flags
       (λ begun flags.
-      reads_then
+      weighs_then
       (λ later name rest. super_at (rows_of pool) name rest >>= λ super.
       interfaces_on flags name super.0 super.1)
-      (reads_class pool)
+      (weighs_class pool)
       (λ later name.
-      reads_then (λ third super rest. interfaces_on flags name super rest) (reads_super pool name)
-      (λ third super. reads_from_interfaces flags name super)))
+      weighs_then (λ third super rest. interfaces_on flags name super rest) (reads_super pool name)
+      (λ third super.
+      counted_before (omega arith) (reads_from_interfaces flags name super))))
 
   -- the head read as a row of its own
   over_is : (p : Position) → class_over_at version (rows_of pool) p ≡ flags_on p
@@ -147,7 +155,7 @@ module _ (version : ℕ × ℕ) (pool : List Entry) where
 abbrev FileParts : ClassDesc → List ℕ → Type 0
 FileParts = Then VersionSpells (λ version. Then PoolSpells (λ pool. FromFlags version pool))
 
-reads_parts : Reads file_at FileParts
+reads_parts : Weighs 0 class_texts file_at FileParts
 unfolding file_at
 reads_parts =
     reads_then
@@ -166,7 +174,11 @@ regrouped : (first minor major count entries flags this super number interfaces 
 regrouped first minor major count entries flags this super number interfaces others =
     simp append_assoc
 
-to_class_file : (d : ClassDesc) (text : List ℕ) → FileParts d text → ClassSpells d text
+-- the bytes spell the description, however much text it has
+abbrev SpellsSome : ClassDesc → List ℕ → Type 0
+SpellsSome d text = (pool : List Entry) × SpellsOver d text pool
+
+to_class_file : (d : ClassDesc) (text : List ℕ) → FileParts d text → SpellsSome d text
 to_class_file d text v =
     let p = v.second in
     let flags = p.second in
@@ -191,7 +203,7 @@ to_class_file d text v =
     let from_flags = joined flags flags.first.whole
     (joined name name.first.is (joined super super.first.is from_super)) in
     let whole = joined v v.first.whole (joined p p.first.whole from_flags) in
-    subst (λ d. ClassSpells d text) methods.second.is (
+    subst (λ d. SpellsSome d text) methods.second.is (
       pool,
       record {
         parts = parts;
@@ -254,7 +266,7 @@ from_super_on d pool bytes s =
       };
     }
 
-from_class_file : (d : ClassDesc) (text : List ℕ) → ClassSpells d text → FileParts d text
+from_class_file : (d : ClassDesc) (text : List ℕ) → SpellsSome d text → FileParts d text
 from_class_file d text (pool, s) =
     let parts = s.parts in
     let others = parts.fields ++ (parts.methods ++ parts.attributes) in
@@ -310,14 +322,14 @@ from_class_file d text (pool, s) =
       };
     }
 
-reads_file : Reads file_at ClassSpells
-reads_file = reads_as ClassSpells reads_parts to_class_file from_class_file
+reads_file : Weighs 0 class_texts file_at SpellsSome
+reads_file = reads_as SpellsSome reads_parts to_class_file from_class_file
 
 -- no byte is left
 guard_ended : {A : Type 0} (b : Bool) (fault : ClassFault) (x y : A)
     → cond b (Ok x) (Err fault) ≡ Ok y
-    → (b ≡ true) × (x ≡ y)
-guard_ended true fault x y e = (refl, cc)
+    → b ≡ true
+guard_ended true fault x y e = refl
 guard_ended false fault x y e = absurd cc
 
 -- what is read is spelled
@@ -327,27 +339,26 @@ pub class_takes : (bytes : List ℕ) (d : ClassDesc)
     → ClassSpells d bytes
 unfolding class_of
 class_takes bytes d fits e =
-    let ended = λ (x : ClassDesc × Position).
-    cond (eqb (length x.1.rest) 0) (Ok x.0) (Err (told x.1 F10)) in
-    let b = bind_ok (file_at (start bytes)) ended d e in
-    let left = b.0.1.rest in
-    let g = guard_ended (eqb (length left) 0) (told b.0.1 F10) b.0.0 d b.2 in
-    let t = reads_file.takes (start bytes) b.0.0 b.0.1 fits b.1 in
-    let nothing : left ≡ [] = nil_from_length left (eqb-true _ _ g.0) in
+    let b = bind_ok (file_at (start bytes)) (λ d. ended d.1 >>= λ end. Ok d.0) d e in
+    let left = b.0.1 in
+    let c = bind_ok (ended left) (λ end. Ok b.0.0) d b.2 in
+    let none = guard_ended (eqb (length left.rest) 0) (left_over left left.outer) tt c.0 c.1 in
+    let t = reads_file.takes (start bytes) b.0.0 left fits b.1 in
+    let nothing : left.rest ≡ [] = nil_from_length left.rest (eqb-true _ _ none) in
     let whole : bytes ≡ t.text = t.parts ∙ ap (λ (r : List ℕ). t.text ++ r) nothing
     ∙ append-nil t.text in
-    subst (λ c. ClassSpells c bytes) g.1 (subst (λ x. ClassSpells b.0.0 x) (sym whole) t.spells)
+    let s = subst (SpellsSome b.0.0) (sym whole) t.spells in
+    subst (λ c. ClassSpells c bytes) (ok_is b.0.0 d c.2) (s.0, s.1, omega (arith, t.spent))
 
 -- what is spelled is read
 pub class_again : (bytes : List ℕ) (d : ClassDesc) → ClassSpells d bytes → class_of bytes ≡ Ok d
 unfolding class_of
-class_again bytes d s =
+class_again bytes d (pool, s, few) =
+    let spare = MOST_TEXT - class_texts d in
     let whole : bytes ++ [] ≡ bytes = append-nil bytes in
-    let read : file_at (start bytes)
-    ≡ Ok (d, record { rest = []; end = length bytes; outer = None }) =
-    ap (λ (t : List ℕ). file_at (record { rest = t; end = length bytes; outer = None }))
-    (sym whole)
-    ∙ reads_file.again (start bytes) d bytes [] s in
+    let read : file_at (start bytes) ≡ Ok (d, left_with (start bytes) [] spare) =
+    ap (λ (t : List ℕ). file_at (left_with (start bytes) t MOST_TEXT)) (sym whole)
+    ∙ reads_file.again (start bytes) d bytes [] spare (pool, s) (omega (arith, few)) in
     rw read refl
 
 pub only_one : (bytes : List ℕ) (d e : ClassDesc) → ClassSpells d bytes → ClassSpells e bytes → d

@@ -12,21 +12,24 @@ use Rattle.class_desc.specs.Pool.{Entry, ClassRef, entry_of}
 use Rattle.class_desc.specs.ClassFile.{magic, object_name, NamesSuper, NamesClasses}
 use Rattle.class_desc.specs.Items.{NamesClassOf, Numbered}
 use Rattle.class_desc.specs.Items.{EachSpells, CountedSpells}
+use Rattle.class_desc.specs.Texts.{total, option_texts}
 use Rattle.pool_reader.specs.declared.fault.ClassKind.TheVariants.{F2, F3, F11}
-use Rattle.pool_reader.specs.Reading.{◌>>=◌, offset, fault_at, told, number_at}
+use Rattle.pool_reader.specs.Reading.{◌>>=◌, Position, Read, offset, fault_at, told, number_at}
+use Rattle.pool_reader.specs.Reading.{spent_at}
 use Rattle.pool_reader.specs.Pooled.{rows_of, class_named}
-use Rattle.pool_reader.proofs.Laws.{Reads, reads_as, Given, reads_given, Then, joined, alone}
+use Rattle.pool_reader.proofs.Laws.{Weighs, Reads, reads_as, Given, reads_given, weighs_given}
+use Rattle.pool_reader.proofs.Laws.{Then, joined, alone}
 use Rattle.pool_reader.proofs.Laws.{reads_then}
 use Rattle.pool_reader.proofs.Laws.{Checked, reads_checked, Either, reads_if, Never, reads_never}
-use Rattle.pool_reader.proofs.Numbers.{NumberSpells, reads_u16, reads_u32}
+use Rattle.pool_reader.proofs.Numbers.{NumberSpells, reads_u16, reads_u32, weighs_spent}
 use Rattle.attribute_reader.specs.declared.forms.Form.TheVariants as form
 use Rattle.attribute_reader.specs.Forms.{form_fault}
 use Rattle.attribute_reader.specs.Items.{class_checked}
 use Rattle.class_reader.specs.Reading.{version_at, class_flags_at, super_at}
 use Rattle.class_reader.specs.Reading.{interfaces_at}
 use Rattle.attribute_reader.proofs.ItemLaws.{Passes, passes, is_checked, to_class, from_class}
-use Rattle.attribute_reader.proofs.ItemLaws.{reads_class}
-use Rattle.attribute_reader.proofs.ListLaws.{reads_counted_at}
+use Rattle.attribute_reader.proofs.ItemLaws.{weighs_class}
+use Rattle.attribute_reader.proofs.ListLaws.{weighs_counted_at}
 
 -- ---- the version
 
@@ -213,17 +216,22 @@ module _ (pool : List Entry) (name : List ℕ) where
   abbrev SuperParts : Option (List ℕ) → List ℕ → Type 0
   SuperParts = Then Number16 (λ n. Either (eqb n 0) NoSuper (SomeSuper n))
 
+  -- a superclass, for whose name there is room
+  abbrev some_at : ℕ → List ℕ → Position → Read (Option (List ℕ))
+  some_at at super p = spent_at at (length super) p >>= λ room. Ok (Some super, room.1)
+
   reads_some : (at n : ℕ)
-      → Reads
+      → Weighs 0 option_texts
       (λ p. class_checked (rows_of pool) at n >>= λ super.
-      cond is_object (Err (fault_at at F11)) (Ok (Some super, p)))
+      cond is_object (Err (fault_at at F11)) (some_at at super p))
       (SomeSuper n)
   reads_some at n =
       reads_as (SomeSuper n)
       (reads_checked (class_checked (rows_of pool) at n)
-      (λ super p. cond is_object (Err (fault_at at F11)) (Ok (Some super, p)))
+      (λ super p. cond is_object (Err (fault_at at F11)) (some_at at super p))
       (λ super.
-      reads_if is_object (reads_never (λ p. fault_at at F11)) (reads_given (Some super))))
+      reads_if is_object (reads_never (λ p. fault_at at F11))
+      (weighs_spent option_texts at (Some super))))
       (λ super rest c. to super rest c c.second)
       (λ super rest s. record {
         item = s.class;
@@ -305,7 +313,7 @@ module _ (pool : List Entry) (name : List ℕ) where
         },
       )
 
-  pub reads_super : Reads (super_at (rows_of pool) name) SuperSpells
+  pub reads_super : Weighs 0 option_texts (super_at (rows_of pool) name) SuperSpells
   unfolding super_at
   reads_super =
       reads_as SuperSpells
@@ -313,11 +321,11 @@ module _ (pool : List Entry) (name : List ℕ) where
       (λ begun n rest.
       cond (eqb n 0) (cond is_object (Ok (None, rest)) (Err (told begun F11)))
       (class_checked (rows_of pool) (offset begun) n >>= λ super.
-      cond is_object (Err (told begun F11)) (Ok (Some super, rest))))
+      cond is_object (Err (told begun F11)) (some_at (offset begun) super rest)))
       reads_u16
       (λ begun n.
       reads_if (eqb n 0)
-      (reads_if is_object (reads_given None) (reads_never (λ p. told begun F11)))
+      (reads_if is_object (weighs_given None refl) (reads_never (λ p. told begun F11)))
       (reads_some (offset begun) n)))
       to_super
       from_super
@@ -408,8 +416,9 @@ module _ (pool : List Entry) where
         each = each_of s.numbers names (flat_map (to_be_bytes w16) s.numbers) s.named refl;
       }
 
-  pub reads_interfaces : Reads (interfaces_at (rows_of pool)) (InterfacesSpell pool)
+  pub reads_interfaces : Weighs 0 (total length) (interfaces_at (rows_of pool))
+      (InterfacesSpell pool)
   unfolding interfaces_at
   reads_interfaces =
-      reads_as (InterfacesSpell pool) (reads_counted_at (reads_class pool)) to_interfaces
+      reads_as (InterfacesSpell pool) (weighs_counted_at (weighs_class pool)) to_interfaces
       from_interfaces

@@ -3,7 +3,7 @@ use Rattle.std.proofs.Common.{◌≡◌, ℕ, zero, suc, ◌^◌, ◌<◌, ◌&&
 use Rattle.std.proofs.Common.{true≢false}
 use Rattle.std.proofs.Common.{cond, List, [], ◌∷◌, ◌++◌, length, map, Ok, Err, refl, sym}
 use Rattle.std.proofs.Common.{ap}
-use Rattle.std.proofs.Common.{subst, ◌∙◌, append_assoc, append-nil, arith}
+use Rattle.std.proofs.Common.{subst, ◌∙◌, ◌+◌, append_assoc, append-nil, arith}
 use Rattle.std.specs.List.{IsDistinct, list_any}
 use Rattle.std.specs.Int.{w16, to_be_bytes}
 use Rattle.class_desc.specs.declared.class.FieldDesc.{FieldDesc}
@@ -19,11 +19,14 @@ use Rattle.class_desc.specs.ClassFile.{MethodSpells}
 use Rattle.class_desc.specs.Items.{EachSpells, CountedSpells}
 use Rattle.class_desc.specs.ClassFile.{Key, is_key, field_key}
 use Rattle.class_desc.specs.ClassFile.{method_key}
+use Rattle.class_desc.specs.Texts.{total, attribute_texts, member_texts, field_texts}
+use Rattle.class_desc.specs.Texts.{method_texts}
 use Rattle.pool_reader.specs.declared.fault.ClassKind.TheVariants.{F9}
 use Rattle.pool_reader.specs.Reading.{◌>>=◌, Position, offset, Read, fault_at}
 use Rattle.pool_reader.specs.Pooled.{rows_of}
-use Rattle.pool_reader.proofs.Laws.{Reads, reads_as, Given, reads_given, Then, joined, reads_then}
-use Rattle.pool_reader.proofs.Laws.{reads_checked, Made, reads_made, same_after}
+use Rattle.pool_reader.proofs.Laws.{Weighs, reads_as, Given, weighs_given, Then, joined}
+use Rattle.pool_reader.proofs.Laws.{weighs_then, reads_then, reads_checked, Made, weighs_made}
+use Rattle.pool_reader.proofs.Laws.{same_after}
 use Rattle.pool_reader.proofs.Numbers.{NumberSpells, reads_u16}
 use Rattle.class_reader.specs.declared.member.Member.{Member}
 use Rattle.class_reader.specs.declared.member.MemberKind.{MemberKind}
@@ -39,11 +42,11 @@ use Rattle.attribute_reader.proofs.Distinct as distinct
 use Rattle.attribute_reader.proofs.Distinct.{distinct_new, new_distinct, flipped}
 use Rattle.attribute_reader.proofs.FormLaws.{Tells, field_name_tells, method_name_tells}
 use Rattle.attribute_reader.proofs.FormLaws.{field_descriptor_tells, method_descriptor_tells}
-use Rattle.attribute_reader.proofs.ItemLaws.{reads_text}
+use Rattle.attribute_reader.proofs.ItemLaws.{weighs_text}
 
 -- the attributes of a field or a method
 reads_attributes : (pool : List Entry) (kind : MemberKind) (descriptor : List ℕ)
-    → Reads (attributes_at (rows_of pool) (place_of kind) descriptor)
+    → Weighs 0 (total attribute_texts) (attributes_at (rows_of pool) (place_of kind) descriptor)
     (AttributesSpell pool (place_of kind) descriptor)
 reads_attributes pool kind.Field descriptor = reads_of_field pool descriptor
 reads_attributes pool kind.Method descriptor = reads_of_method pool descriptor
@@ -76,13 +79,23 @@ is_new at key seen new = rw new refl
 abbrev NewGiven : {A : Type 0} → List Key → Key → A → A → List ℕ → Type 0
 NewGiven seen key made item rest = IsNew seen key × Given made item rest
 
-reads_new : {A : Type 0} (at : ℕ) (key : Key) (seen : List Key) (made : A)
-    → Reads (λ p. unseen at key seen >>= λ new. Ok (made, p)) (NewGiven seen key made)
-reads_new at key seen made =
+reads_new : {A : Type 0} {before : ℕ} {weight : A → ℕ} (at : ℕ) (key : Key) (seen : List Key)
+    (made : A)
+    → before ≡ weight made
+    → Weighs before weight (λ p. unseen at key seen >>= λ new. Ok (made, p))
+    (NewGiven seen key made)
+reads_new at key seen made all =
     reads_as (NewGiven seen key made)
-    (reads_checked (unseen at key seen) (λ new p. Ok (made, p)) (λ new. reads_given made))
+    (reads_checked (unseen at key seen) (λ new p. Ok (made, p)) (λ new. weighs_given made all))
     (λ item rest c. (new_is at key seen c.item c.passed, c.second))
     (λ item rest n. record { item = tt; passed = is_new at key seen n.0; second = n.1 })
+
+-- what the name and the descriptor of a member have
+abbrev signed_texts : ℕ × List ℕ × List ℕ → ℕ
+signed_texts m = length m.1 + length m.2
+
+abbrev own_texts : Member → ℕ
+own_texts m = member_texts m.name m.descriptor m.attrs
 
 -- what stands in front of the attributes
 record SignedSpells (pool : List Entry) (IsName : List ℕ → Type 0) (IsDescriptor : ℕ → List ℕ
@@ -245,27 +258,28 @@ module _ (pool : List Entry) (kind : MemberKind) (IsName : List ℕ → Type 0)
     descriptor_at flags = text_at (rows_of pool) (form_fault (descriptor_form kind flags))
 
     reads_from_name : (seen : List Key) (flags : ℕ)
-        → Reads
+        → Weighs 0 signed_texts
         (λ p. name_at p >>= λ name. descriptor_at flags name.1 >>= λ descriptor.
         unseen (offset p) (name.0, descriptor.0) seen >>= λ new.
         Ok ((flags, name.0, descriptor.0), descriptor.1))
         (FromName seen flags)
     reads_from_name seen flags =
-        reads_then
+        weighs_then
         (λ begun name rest. descriptor_at flags rest >>= λ descriptor.
         unseen (offset begun) (name, descriptor.0) seen >>= λ new.
         Ok ((flags, name, descriptor.0), descriptor.1))
-        (reads_text pool (form_fault (name_form kind)) IsName name_law)
+        (weighs_text pool (form_fault (name_form kind)) IsName name_law)
         (λ begun name.
-        reads_then
+        weighs_then
         (λ later descriptor rest. unseen (offset begun) (name, descriptor) seen >>= λ new.
         Ok ((flags, name, descriptor), rest))
-        (reads_text pool (form_fault (descriptor_form kind flags)) (IsDescriptor flags)
+        (weighs_text pool (form_fault (descriptor_form kind flags)) (IsDescriptor flags)
         (descriptor_law flags))
         (λ later descriptor.
-        reads_new (offset begun) (name, descriptor) seen (flags, name, descriptor)))
+        reads_new (offset begun) (name, descriptor) seen (flags, name, descriptor) (omega arith)))
 
-    reads_signed : (seen : List Key) → Reads (signed_at (rows_of pool) kind seen) (Signed seen)
+    reads_signed : (seen : List Key)
+        → Weighs 0 signed_texts (signed_at (rows_of pool) kind seen) (Signed seen)
     unfolding signed_at
     reads_signed seen =
         reads_as (Signed seen)
@@ -279,11 +293,11 @@ module _ (pool : List Entry) (kind : MemberKind) (IsName : List ℕ → Type 0)
         (from_signed seen)
 
     pub reads_member : (seen : List Key)
-        → Reads (member_at (rows_of pool) kind seen) (NewMember SpellsMember seen)
+        → Weighs 0 own_texts (member_at (rows_of pool) kind seen) (NewMember SpellsMember seen)
     unfolding member_at
     reads_member seen =
         reads_as (NewMember SpellsMember seen)
-        (reads_then
+        (weighs_then
         (λ begun front rest. attributes_at (rows_of pool) (place_of kind) front.2 rest >>= λ attrs.
         Ok (
           record { flags = front.0; name = front.1; descriptor = front.2; attrs = attrs.0 },
@@ -291,12 +305,13 @@ module _ (pool : List Entry) (kind : MemberKind) (IsName : List ℕ → Type 0)
         ))
         (reads_signed seen)
         (λ begun front.
-        reads_made (λ attrs. record {
+        weighs_made (λ attrs. record {
           flags = front.0;
           name = front.1;
           descriptor = front.2;
           attrs = attrs;
         })
+        (λ attrs. omega arith)
         (reads_attributes pool kind front.2)))
         (to_member seen)
         (from_member seen)
@@ -353,7 +368,7 @@ module _ {A : Type 0} (make : Member → A) (back : A → Member) (Spells : Memb
   no_member seen (item ∷ items) text s = absurd (let h = s.length_is in cc)
 
   module _ (there : (m : Member) → back (make m) ≡ m) (again : (item : A) → make (back item)
-      ≡ item) where
+      ≡ item) (weight : A → ℕ) (weight_is : (m : Member) → weight (make m) ≡ own_texts m) where
     to_members : (seen : List Key) (n : ℕ) (items : List A) (text : List ℕ)
         → MembersParts seen n items text → SeveralMembers seen (suc n) items text
     to_members seen n items text s =
@@ -396,18 +411,18 @@ module _ {A : Type 0} (make : Member → A) (back : A → Member) (Spells : Memb
     }
 
     pub reads_members : (read : List Key → Position → Read Member)
-        → ((seen : List Key) → Reads (read seen) (NewMember Spells seen))
-        → (seen : List Key) (n : ℕ) → Reads (members_at make read seen n)
+        → ((seen : List Key) → Weighs 0 own_texts (read seen) (NewMember Spells seen))
+        → (seen : List Key) (n : ℕ) → Weighs 0 (total weight) (members_at make read seen n)
         (SeveralMembers seen n)
     unfolding members_at
     reads_members read law seen zero =
-        reads_as (SeveralMembers seen 0) (reads_given []) (λ items text s.
+        reads_as (SeveralMembers seen 0) (weighs_given [] refl) (λ items text s.
         subst (λ v. SeveralMembers seen 0 v text) s.0
         (record { length_is = refl; each = s.1; new = tt })) (no_member seen)
     reads_members read law seen (suc n) = reads_as (SeveralMembers seen (suc n))
-        (reads_then (λ begun m rest. members_at make read (seen ++ member_key m ∷ []) n rest >>=
+        (weighs_then (λ begun m rest. members_at make read (seen ++ member_key m ∷ []) n rest >>=
         λ ms. Ok (make m ∷ ms.0, ms.1)) (law seen) (λ begun m.
-        reads_made (λ items. make m ∷ items)
+        weighs_made (λ items. make m ∷ items) (λ items. omega (arith, weight_is m))
         (reads_members read law (seen ++ member_key m ∷ []) n)))
         (to_members seen n)
         (from_members seen n)
@@ -470,7 +485,8 @@ method_back m = record {
 }
 
 pub reads_fields : (pool : List Entry)
-    → Reads (fields_at (rows_of pool)) (DistinctSpell (FieldSpells pool) field_key)
+    → Weighs 0 (total field_texts) (fields_at (rows_of pool))
+    (DistinctSpell (FieldSpells pool) field_key)
 unfolding fields_at
 reads_fields pool =
     let IsDescriptor = λ (flags : ℕ). IsFieldDescriptor in
@@ -480,13 +496,14 @@ reads_fields pool =
     (λ flags. field_descriptor_tells) in
     reads_as (DistinctSpell (FieldSpells pool) field_key)
     (reads_then (λ begun count rest. members_at as_field read [] count rest) reads_u16
-    (λ begun count. reads_members as_field field_back Spells (λ m. refl) (λ f. refl) read law []
-    count))
+    (λ begun count. reads_members as_field field_back Spells (λ m. refl) (λ f. refl) field_texts
+    (λ m. refl) read law [] count))
     (to_distinct as_field field_back Spells)
     (from_distinct as_field field_back Spells)
 
 pub reads_methods : (pool : List Entry)
-    → Reads (methods_at (rows_of pool)) (DistinctSpell (MethodSpells pool) method_key)
+    → Weighs 0 (total method_texts) (methods_at (rows_of pool))
+    (DistinctSpell (MethodSpells pool) method_key)
 unfolding methods_at
 reads_methods pool =
     let Spells = SpellsMember pool kind.Method IsMethodName IsMethodDescriptor in
@@ -495,7 +512,7 @@ reads_methods pool =
     method_descriptor_tells in
     reads_as (DistinctSpell (MethodSpells pool) method_key)
     (reads_then (λ begun count rest. members_at as_method read [] count rest) reads_u16
-    (λ begun count. reads_members as_method method_back Spells (λ m. refl) (λ m. refl) read law []
-    count))
+    (λ begun count. reads_members as_method method_back Spells (λ m. refl) (λ m. refl)
+    method_texts (λ m. refl) read law [] count))
     (to_distinct as_method method_back Spells)
     (from_distinct as_method method_back Spells)

@@ -1,6 +1,6 @@
 -- Reading a class file from front to back (JVMS 4.1), item by item, up to the first check that
 -- fails.
-use Rattle.std.specs.Prelude.{ℕ, zero, suc, ◌^◌, ◌||◌, List, [], ◌∷◌}
+use Rattle.std.specs.Prelude.{◌≡◌, ℕ, zero, suc, ◌^◌, ◌||◌, List, [], ◌∷◌}
 use Rattle.std.specs.Prelude.{◌++◌, length}
 use Rattle.std.specs.Prelude.{Option, Some, None, Result, Ok, Err, nat_lt, ◌==◌, if◌then◌else◌}
 use Rattle.std.specs.Int.{w16, w32}
@@ -12,10 +12,10 @@ use Rattle.class_desc.specs.declared.place.Place.{Place}
 use Rattle.class_desc.specs.declared.place.Place.TheVariants as place
 use Rattle.java_names.specs.Names.{is_text}
 use Rattle.class_desc.specs.ClassFile.{object_name, magic, Key, is_key}
-use Rattle.pool_reader.specs.declared.fault.ClassKind.TheVariants.{F2, F3, F9, F10, F11}
+use Rattle.pool_reader.specs.declared.fault.ClassKind.TheVariants.{F2, F3, F9, F11}
 use Rattle.pool_reader.specs.declared.fault.ClassFault.{ClassFault}
 use Rattle.pool_reader.specs.Reading.{◌>>=◌, Position, offset, start, Read, fault_at, told}
-use Rattle.pool_reader.specs.Reading.{number_at}
+use Rattle.pool_reader.specs.Reading.{number_at, spent_at, ended}
 use Rattle.pool_reader.specs.Pooled.{Row, pool_at}
 use Rattle.attribute_reader.specs.declared.forms.Form.{Form}
 use Rattle.attribute_reader.specs.declared.forms.Form.TheVariants as form
@@ -52,7 +52,8 @@ super_at rows name p = do
   if n.0 == 0
       then (if is_text name object_name then Ok (None, n.1) else Err (told p F11))
       else (class_checked rows (offset p) n.0 >>= λ super.
-      if is_text name object_name then Err (told p F11) else Ok (Some super, n.1))
+      if is_text name object_name then Err (told p F11) else
+      (spent_at (offset p) (length super) n.1 >>= λ room. Ok (Some super, room.1)))
 
 unfoldable pub interfaces_at : List Row → Position → Read (List (List ℕ))
 interfaces_at rows p = counted_at (class_at rows) p
@@ -87,6 +88,10 @@ descriptor_form kind.Method flags = form.MethodDescriptor flags
 -- that no member was seen that has this name and descriptor: told at the name's offset
 abbrev pub unseen : ℕ → Key → List Key → Result (Unit {0}) ClassFault
 unseen at key seen = if list_any (is_key key) seen then Err (fault_at at F9) else Ok tt
+
+-- the lists have the same keys, in whatever order
+abbrev pub HaveSame : List Key → List Key → Type 0
+HaveSame a b = (key : Key) → list_any (is_key key) a ≡ list_any (is_key key) b
 
 -- What stands in front of the attributes of a member. That it is new is the last check of the
 -- descriptor.
@@ -167,4 +172,5 @@ file_at p = do
 unfoldable pub class_of : List ℕ → Result ClassDesc ClassFault
 class_of bytes = do
   d ← file_at (start bytes)
-  if length d.1.rest == 0 then Ok d.0 else Err (told d.1 F10)
+  end ← ended d.1
+  Ok d.0

@@ -77,11 +77,8 @@ fn class_from(alloc: Global, bytes: &[u8]) -> Result<ClassDesc, ReadErr>
 {
     let mut reader = Reader::of(bytes);
     let class = class(&mut reader, alloc)?;
-    if reader.is_empty() {
-        Ok(class)
-    } else {
-        Err(ClassKind::F10.at(reader.offset()))
-    }
+    reader.finish()?;
+    Ok(class)
 }
 
 /// Reads a class file (JVMS 4.1) of JDK 1.0.2 to Java SE 17.

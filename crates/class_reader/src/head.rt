@@ -63,6 +63,7 @@ fn super_name(
     if is_object(name) {
         return Err(ClassKind::F11.at(at));
     }
+    reader.spend(at, super_name.len())?;
     Ok(Some(Text::of(alloc, super_name)?))
 }
 

@@ -1,15 +1,16 @@
 ghost use Rattle.std.specs.Prelude.{◌≡◌, [], ◌∷◌, ◌++◌, IfOk, OnOk};
 ghost use Rattle.pool_reader.specs.Reading.{Answers, Gives};
-ghost use Rattle.class_reader.specs.Reading.{unseen, place_of, name_form, descriptor_form};
+ghost use Rattle.class_reader.specs.Reading.{unseen, HaveSame};
+ghost use Rattle.class_reader.specs.Reading.{place_of, name_form, descriptor_form};
 ghost use Rattle.class_reader.specs.Reading.{signed_at, member_at, members_at, as_field};
 ghost use Rattle.class_reader.specs.Reading.{as_method, fields_at, methods_at};
 
 use attribute_reader::{Form, attributes};
 use class_desc::{Attr, FieldDesc, MethodDesc, Place};
 use hdr_core::{List, Text};
-use indexmap::IndexSet;
 use pool_reader::{ClassKind, Pool, ReadErr, Reader};
 use std::alloc::Global;
+use std::collections::BTreeSet;
 use std::marker::Model;
 
 /// The least bytes of a member in a file: flags, name, descriptor and a count of attributes.
@@ -97,16 +98,17 @@ impl FromMember for MethodDesc {
 }
 
 /// What tells the members of a class apart.
-#[derive(Clone, Copy, PartialEq, Eq, Hash)]
+#[derive(Clone, Copy, PartialEq, Eq, PartialOrd, Ord)]
 pub struct MemberKey<'a> {
     name: &'a [u8],
     descriptor: &'a [u8],
 }
 
-/// The names and descriptors of the members so far.
+/// The names and descriptors of the members so far, in their order: a table by hashes would be slow
+/// for names that are picked so that theirs collide.
 #[derive(Drop)]
 pub struct SeenMembers<'a> {
-    keys: IndexSet<MemberKey<'a>>,
+    keys: BTreeSet<MemberKey<'a>>,
 }
 
 impl<'a> Model for SeenMembers<'a> {
@@ -124,7 +126,7 @@ impl<'a> SeenMembers<'a> {
         ensures { result ≡ [] }
     {
         SeenMembers {
-            keys: IndexSet::new(alloc),
+            keys: BTreeSet::new(alloc),
         }
     }
 
@@ -133,7 +135,8 @@ impl<'a> SeenMembers<'a> {
     pub fn add(&mut self, at: u32, name: &'a [u8], descriptor: &'a [u8]) -> Result<(), ReadErr>
         ensures unseen { Answers (λ _. tt) result
             (unseen at (name.now, descriptor.now) self.old) }
-        ensures seen { OnOk result (self.new ≡ self.old ++ (name.now, descriptor.now) ∷ []) }
+        ensures seen { OnOk result
+            (HaveSame self.new (self.old ++ (name.now, descriptor.now) ∷ [])) }
     {
         if self.keys.insert(MemberKey { name, descriptor })? {
             Ok(())
@@ -153,7 +156,8 @@ fn signed<'a>(
 ) -> Result<(u16, &'a [u8], &'a [u8]), ReadErr>
     ensures signed { Gives (λ m. (m.0, m.1.now, m.2.now)) result reader.new
         (signed_at pool.now kind seen.old reader.old) }
-    ensures seen { IfOk result (λ m. seen.new ≡ seen.old ++ (m.1.now, m.2.now) ∷ []) }
+    ensures seen { IfOk result
+        (λ m. HaveSame seen.new (seen.old ++ (m.1.now, m.2.now) ∷ [])) }
 {
     let flags = reader.u16()?;
     let name_at = reader.offset();
@@ -174,7 +178,8 @@ fn next_member<'a>(
 ) -> Result<Member, ReadErr>
     ensures member { Gives (λ m. m) result reader.new
         (member_at pool.now kind seen.old reader.old) }
-    ensures seen { IfOk result (λ m. seen.new ≡ seen.old ++ (m.name, m.descriptor) ∷ []) }
+    ensures seen { IfOk result
+        (λ m. HaveSame seen.new (seen.old ++ (m.name, m.descriptor) ∷ [])) }
 {
     let (flags, name, descriptor) = signed(reader, pool, kind, seen)?;
     let attrs = attributes(reader, alloc, pool, kind.place(), descriptor)?;
@@ -197,9 +202,9 @@ fn member_list<T: FromMember>(
     ensures { Gives (λ members. members) result reader.new
         (members_at T.described (member_at pool.now kind) [] count reader.old) }
 {
-    let most = reader.len() / LEAST_MEMBER;
+    let room = usize::from(count).min(reader.len() / LEAST_MEMBER);
     let mut seen = SeenMembers::new(alloc);
-    let mut members = Vec::with_capacity(alloc, usize::from(count).min(most))?;
+    let mut members = Vec::with_capacity(alloc, room)?;
     for _ in 0..count {
         let member = next_member(reader, alloc, pool, kind, &mut seen)?;
         members.push(T::from_member(member))?;

@@ -191,4 +191,5 @@ layout_spells d valid =
         attributes = (attributes_laid read fit octets place.Class [] d.attrs parts.attributes
             given.attributes).spelled pool few (held_behind pool methods attrs behind);
       },
+      valid.2.2,
     )

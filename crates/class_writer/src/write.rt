@@ -22,7 +22,7 @@ pub fn write_class(alloc: Global, desc: &ClassDesc) -> Result<Vec<u8>, PoolErr>
     let items = outline.items();
     check_texts(items)?;
     check_counts(items)?;
-    let mut writer = ClassWriter::new(alloc, outline.size())?;
+    let mut writer = ClassWriter::new(alloc, items.len(), outline.size())?;
     writer.write(items)?;
     writer.check_pool()?;
     Ok(writer.file(alloc, desc.minor, desc.major)?)

@@ -39,10 +39,7 @@ const HEAD: usize = 10;
 /// The most numbers that a pool has: its count is one more.
 const MOST_NUMBERS: usize = 65_534;
 
-/// How many numbers, and how many bytes of entries, there is room for at first: those of a plain
-/// class.
-const ROOM: usize = 64;
-
+/// How many bytes of entries there is room for at first: those of a plain class.
 const ROOM_OF_ENTRIES: usize = 1_024;
 
 /// A class file in the making: the pool by its numbers, its bytes, and what stands behind it.
@@ -70,12 +67,12 @@ impl<'a> Model for ClassWriter<'a> {
 }
 
 impl<'a> ClassWriter<'a> {
-    /// With room for what stands behind the pool, which has this size.
-    pub fn new(alloc: Global, size: usize) -> Result<ClassWriter<'a>, Memory>
+    /// With room for as many numbers, and for what stands behind the pool, which has this size.
+    pub fn new(alloc: Global, numbers: usize, size: usize) -> Result<ClassWriter<'a>, Memory>
         ensures { IfOk result (λ writer. writer ≡ record { pool = []; entries = []; body = [] }) }
     {
         Ok(ClassWriter {
-            slots: IndexSet::with_capacity(alloc, ROOM)?,
+            slots: IndexSet::with_capacity(alloc, numbers)?,
             entries: Vec::with_capacity(alloc, ROOM_OF_ENTRIES)?,
             body: Vec::with_capacity(alloc, size)?,
         })

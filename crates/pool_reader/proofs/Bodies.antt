@@ -1,15 +1,17 @@
 -- The body of an attribute, read within its length.
 use Rattle.std.proofs.Common.{◌≡◌, ℕ, ◌<◌, ◌^◌, Bool, true, false, cond, eqb, List, [], ◌++◌}
 use Rattle.std.proofs.Common.{length, take, Some, Result, Ok, Err, refl, sym, ap, subst}
-use Rattle.std.proofs.Common.{◌∙◌, append_assoc, append-nil}
+use Rattle.std.proofs.Common.{◌∙◌, ◌+◌, append_assoc, append-nil, arith}
 use Rattle.std.specs.Int.{w32, to_be_bytes}
 use Rattle.std.proofs.lemmas.Bool.{eqb-true}
 use Rattle.std.proofs.lemmas.List.{take_at, nil_from_length}
 use Rattle.class_desc.specs.Items.{Within}
 use Rattle.pool_reader.specs.declared.fault.ClassFault.{ClassFault}
-use Rattle.pool_reader.specs.Reading.{◌>>=◌, Position, leaving, offset, Read, number_at, piece_at}
-use Rattle.pool_reader.specs.Reading.{body_at, left_over, ended, within}
-use Rattle.pool_reader.proofs.Laws.{IsBytes, Takes, Reads, bind_ok, ok_is}
+use Rattle.pool_reader.specs.Reading.{◌>>=◌, Position, leaving, left_with, offset, Read}
+use Rattle.pool_reader.specs.Reading.{number_at, piece_at, body_at, left_over, ended}
+use Rattle.pool_reader.specs.Reading.{behind_body, within}
+use Rattle.pool_reader.proofs.Laws.{IsBytes, Takes, Weighs, takes_plainly, again_plainly}
+use Rattle.pool_reader.proofs.Laws.{bind_ok, ok_is}
 use Rattle.pool_reader.proofs.Numbers.{IsBytes-take, reads_u32, reads_piece}
 
 abbrev done : {A : Type 0} → A → Result A ClassFault
@@ -17,8 +19,12 @@ done x = Ok x
 
 -- the position from which a body of these bytes is read
 abbrev inside : Position → List ℕ → Position → Position
-inside begun bytes behind =
-    record { rest = bytes; end = offset behind; outer = Some (offset begun) }
+inside begun bytes behind = record {
+  rest = bytes;
+  end = offset behind;
+  outer = Some (offset begun);
+  spare = begun.spare;
+}
 
 -- ---- the body
 
@@ -41,12 +47,12 @@ takes_body p body left fits e =
     (body, left) e in
     let n = b.0.0 in
     let q = b.0.1 in
-    let t = reads_u32.takes p n q fits b.1 in
+    let t = takes_plainly reads_u32 p n q fits b.1 in
     let c = bind_ok (piece_at n q) (λ bytes. Ok (inside p bytes.0 bytes.1, bytes.1)) (body, left)
     b.2 in
     let bytes = c.0.0 in
     let behind = c.0.1 in
-    let u = (reads_piece n).takes q bytes behind t.left_fits c.1 in
+    let u = takes_plainly (reads_piece n) q bytes behind t.left_fits c.1 in
     let is = ok_is (inside p bytes behind, behind) (body, left) c.2 in
     let rest_is : q.rest ≡ bytes ++ behind.rest =
     u.parts ∙ ap (λ (t : List ℕ). t ++ behind.rest) u.spells.1 in
@@ -81,9 +87,9 @@ body_again p bytes left fits =
     append_assoc count bytes left in
     let one : number_at w32 begun ≡ Ok (length bytes, leaving p (bytes ++ left)) =
     ap (λ (t : List ℕ). number_at w32 (leaving p t)) regrouped
-    ∙ reads_u32.again p (length bytes) count (bytes ++ left) (fits, refl) in
+    ∙ again_plainly reads_u32 p (length bytes) count (bytes ++ left) (fits, refl) in
     let two : piece_at (length bytes) (leaving p (bytes ++ left)) ≡ Ok (bytes, leaving p left) =
-    (reads_piece (length bytes)).again p bytes bytes left (refl, refl) in
+    again_plainly (reads_piece (length bytes)) p bytes bytes left (refl, refl) in
     ap (λ (r : Read ℕ). r >>= λ count. piece_at count.0 count.1 >>= λ bytes.
     done (inside begun bytes.0 bytes.1, bytes.1)) one
     ∙ ap (λ (r : Read (List ℕ)). r >>= λ bytes. done (inside begun bytes.0 bytes.1, bytes.1)) two
@@ -105,29 +111,37 @@ none_left p nothing e = by (eqb (length p.rest) 0) refl e
 abbrev pub WithinSpells : {A : Type 0} → (A → List ℕ → Type 0) → A → List ℕ → Type 0
 WithinSpells Spells item = Within (Spells item)
 
-module _ {A : Type 0} {read : Position → Read A} {Spells : A → List ℕ → Type 0}
-    (law : Reads read Spells) where
+module _ {A : Type 0} {weight : A → ℕ} {read : Position → Read A} {Spells : A → List ℕ → Type 0}
+    (law : Weighs 0 weight read Spells) where
   within_takes : (p : Position) (item : A) (left : Position) → IsBytes p.rest
       → within read p ≡ Ok (item, left)
-      → Takes (WithinSpells Spells) p item left
+      → Takes 0 weight (WithinSpells Spells) p item left
   within_takes p item left fits e =
       let b = bind_ok (body_at p)
-      (λ body. read body.0 >>= λ item. ended item.1 >>= λ end. Ok (item.0, body.1)) (item, left)
-      e in
+      (λ body. read body.0 >>= λ item. behind_body item.1 body.1 >>= λ behind.
+      Ok (item.0, behind.1)) (item, left) e in
       let t = takes_body p b.0.0 b.0.1 fits b.1 in
-      let c = bind_ok (read b.0.0) (λ item. ended item.1 >>= λ end. Ok (item.0, b.0.1))
-      (item, left) b.2 in
+      let c = bind_ok (read b.0.0)
+      (λ item. behind_body item.1 b.0.1 >>= λ behind. Ok (item.0, behind.1)) (item, left) b.2 in
       let read_is : read (inside p t.bytes b.0.1) ≡ Ok c.0 = ap read t.body_is ∙ c.1 in
       let u = law.takes (inside p t.bytes b.0.1) c.0.0 c.0.1 t.body_fits read_is in
-      let d = bind_ok (ended c.0.1) (λ end. Ok (c.0.0, b.0.1)) (item, left) c.2 in
+      let d = bind_ok (behind_body c.0.1 b.0.1) (λ behind. Ok (c.0.0, behind.1)) (item, left) c.2
+      in
+      let f = bind_ok (ended c.0.1) (λ end. Ok (tt, left_with b.0.1 b.0.1.rest c.0.1.spare)) d.0
+      d.1 in
       let whole : t.bytes ≡ u.text =
-      u.parts ∙ ap (λ (k : List ℕ). u.text ++ k) (none_left c.0.1 d.0 d.1)
+      u.parts ∙ ap (λ (k : List ℕ). u.text ++ k) (none_left c.0.1 f.0 f.1)
       ∙ append-nil u.text in
-      let is = ok_is (c.0.0, b.0.1) (item, left) d.2 in
-      subst (λ (x : A × Position). Takes (WithinSpells Spells) p x.0 x.1) is (record {
+      let behind_is : left_with b.0.1 b.0.1.rest c.0.1.spare ≡ d.0.1 =
+      ap (λ (x : Unit {0} × Position). x.1)
+      (ok_is (tt, left_with b.0.1 b.0.1.rest c.0.1.spare) d.0 f.2) in
+      let is = ap (λ (q : Position). (c.0.0, q)) behind_is
+      ∙ ok_is (c.0.0, d.0.1) (item, left) d.2 in
+      subst (λ (x : A × Position). Takes 0 weight (WithinSpells Spells) p x.0 x.1) is (record {
         text = to_be_bytes w32 (length t.bytes) ++ t.bytes;
         parts = t.parts;
-        stays = t.stays;
+        stays = ap (λ (q : Position). left_with q b.0.1.rest c.0.1.spare) t.stays;
+        spent = u.spent;
         left_fits = t.left_fits;
         spells = record {
           body = t.bytes;
@@ -137,22 +151,28 @@ module _ {A : Type 0} {read : Position → Read A} {Spells : A → List ℕ → 
         };
       })
 
-  within_again : (p : Position) (item : A) (text left : List ℕ) → WithinSpells Spells item text
-      → within read (leaving p (text ++ left)) ≡ Ok (item, leaving p left)
-  within_again p item text left s =
+  within_again : (p : Position) (item : A) (text left : List ℕ) (spare : ℕ)
+      → WithinSpells Spells item text
+      → p.spare + 0 ≡ spare + weight item
+      → within read (leaving p (text ++ left)) ≡ Ok (item, left_with p left spare)
+  within_again p item text left spare s spent =
       let count = to_be_bytes w32 (length s.body) in
       let begun = leaving p ((count ++ s.body) ++ left) in
       let body = inside begun s.body (leaving p left) in
       let one : body_at begun ≡ Ok (body, leaving p left) = body_again p s.body left s.fits in
-      let two : read body ≡ Ok (item, leaving body []) =
+      let two : read body ≡ Ok (item, left_with body [] spare) =
       ap (λ (t : List ℕ). read (leaving body t)) (sym (append-nil s.body))
-      ∙ law.again body item s.body [] s.spelled in
+      ∙ law.again body item s.body [] spare s.spelled spent in
       ap (λ (t : List ℕ). within read (leaving p (t ++ left))) s.whole
-      ∙ ap (λ (r : Read Position). r >>= λ body. read body.0 >>= λ item. ended item.1 >>= λ end.
-      done (item.0, body.1)) one
-      ∙ ap (λ (r : Read A). r >>= λ item. ended item.1 >>= λ end.
-      done (item.0, leaving p left)) two
+      ∙ ap (λ (r : Read Position). r >>= λ body. read body.0 >>= λ item.
+      behind_body item.1 body.1 >>= λ behind. done (item.0, behind.1)) one
+      ∙ ap (λ (r : Read A). r >>= λ item. behind_body item.1 (leaving p left) >>= λ behind.
+      done (item.0, behind.1)) two
 
   -- a reader within a length reads just what is spelled there
-  pub reads_within : Reads (within read) (WithinSpells Spells)
-  reads_within = record { takes = within_takes; again = within_again }
+  pub weighs_within : Weighs 0 weight (within read) (WithinSpells Spells)
+  weighs_within = record {
+    takes = within_takes;
+    again = within_again;
+    more = λ item text s. omega arith;
+  }

@@ -1,13 +1,16 @@
 -- What it is for a reader to read just what a relation spells, and how such readers are put
 -- together.
-use Rattle.std.proofs.Common.{◌⊎◌, ◌≡◌, ℕ, zero, suc, ◌<◌, Bool, true, false, true≢false, cond}
+use Rattle.std.proofs.Common.{◌⊎◌, ◌≡◌, ℕ, zero, suc, ◌+◌, ◌-◌, ◌<◌, ◌≤◌, Bool, true, false}
+use Rattle.std.proofs.Common.{true≢false, cond}
 use Rattle.std.proofs.Common.{List, [], ◌∷◌, ◌++◌, length, get_or, Result, Ok, Err, refl, sym, ap}
 use Rattle.std.proofs.Common.{subst, ◌∙◌, append_assoc, append-nil, arith, inl, inr}
 use Rattle.std.specs.List.{flat_map, AllByRecursion}
 use Rattle.std.proofs.lemmas.List.Concat.{flat_map-cons}
 use Rattle.class_desc.specs.Items.{EachSpells}
+use Rattle.class_desc.specs.Texts.{total}
 use Rattle.pool_reader.specs.declared.fault.ClassFault.{ClassFault}
-use Rattle.pool_reader.specs.Reading.{AreBytes, ◌>>=◌, Position, leaving, Read, times, pass_all}
+use Rattle.pool_reader.specs.Reading.{AreBytes, ◌>>=◌, Position, leaving, left_with, start, Read}
+use Rattle.pool_reader.specs.Reading.{times, pass_all}
 
 abbrev pub IsBytes : List ℕ → Type 0
 IsBytes bytes = (i : ℕ) → get_or bytes i 0 < 256
@@ -17,8 +20,43 @@ from_AreBytes [] fits i = omega arith
 from_AreBytes (b ∷ bytes) fits zero = fits.0
 from_AreBytes (b ∷ bytes) fits (suc i) = from_AreBytes bytes fits.1 i
 
+-- The bytes here begin with a text that spells the item, and the others are left. Of the room for
+-- texts the item's weight is gone, but for the part of it that was gone before.
+pub record Takes {A : Type 0} (before : ℕ) (weight : A → ℕ) (Spells : A → List ℕ → Type 0)
+    (p : Position) (item : A) (left : Position) : Type 0 where
+  pub text : List ℕ
+  pub parts : p.rest ≡ text ++ left.rest
+  pub stays : left ≡ left_with p left.rest left.spare
+  pub spent : p.spare + before ≡ left.spare + weight item
+  pub left_fits : IsBytes left.rest
+  pub spells : Spells item text
+
+-- What the reader reads is spelled, and what is spelled the reader reads, whatever follows, where
+-- there is room for its texts. An item has a weight, of which a part was counted before.
+pub record Weighs {A : Type 0} (before : ℕ) (weight : A → ℕ) (read : Position → Read A)
+    (Spells : A → List ℕ → Type 0) : Type 0 where
+  pub takes : (p : Position) (item : A) (left : Position)
+      → IsBytes p.rest
+      → read p ≡ Ok (item, left)
+      → Takes before weight Spells p item left
+  pub again : (p : Position) (item : A) (text left : List ℕ) (spare : ℕ)
+      → Spells item text
+      → p.spare + before ≡ spare + weight item
+      → read (leaving p (text ++ left)) ≡ Ok (item, left_with p left spare)
+  pub more : (item : A) (text : List ℕ) → Spells item text → before ≤ weight item
+
+-- an item without texts
+abbrev pub weightless : {A : Type 0} → A → ℕ
+weightless item = 0
+
+-- the same of a reader that names no texts
+abbrev pub Reads : {A : Type 0} → (Position → Read A) → (A → List ℕ → Type 0) → Type 0
+Reads read Spells = Weighs 0 weightless read Spells
+
+-- ---- readers that name no texts, without their room
+
 -- the bytes here begin with a text that spells the item, and the others are left
-pub record Takes {A : Type 0} (Spells : A → List ℕ → Type 0) (p : Position) (item : A)
+pub record Plainly {A : Type 0} (Spells : A → List ℕ → Type 0) (p : Position) (item : A)
     (left : Position) : Type 0 where
   pub text : List ℕ
   pub parts : p.rest ≡ text ++ left.rest
@@ -26,16 +64,56 @@ pub record Takes {A : Type 0} (Spells : A → List ℕ → Type 0) (p : Position
   pub left_fits : IsBytes left.rest
   pub spells : Spells item text
 
--- what the reader reads is spelled, and what is spelled the reader reads, whatever follows
-pub record Reads {A : Type 0} (read : Position → Read A) (Spells : A → List ℕ
-    → Type 0) : Type 0 where
-  pub takes : (p : Position) (item : A) (left : Position)
+module _ {A : Type 0} {read : Position → Read A} {Spells : A → List ℕ → Type 0} where
+  pub reads_plainly : ((p : Position) (item : A) (left : Position)
       → IsBytes p.rest
       → read p ≡ Ok (item, left)
-      → Takes Spells p item left
-  pub again : (p : Position) (item : A) (text left : List ℕ)
+      → Plainly Spells p item left)
+      → ((p : Position) (item : A) (text left : List ℕ)
+      → Spells item text
+      → read (leaving p (text ++ left)) ≡ Ok (item, leaving p left))
+      → Reads read Spells
+  reads_plainly takes again = record {
+    takes = λ p item left fits e.
+        let t = takes p item left fits e in
+        let spare : left.spare ≡ p.spare = ap (λ (q : Position). q.spare) t.stays in
+        record {
+          text = t.text;
+          parts = t.parts;
+          stays = t.stays ∙ ap (λ n. left_with p left.rest n) (sym spare);
+          spent = ap (λ n. n + 0) (sym spare);
+          left_fits = t.left_fits;
+          spells = t.spells;
+        };
+    again = λ p item text left spare s spent.
+        let same : p.spare ≡ spare = omega (arith, spent) in
+        again p item text left s
+        ∙ ap (λ n. ok_at item (left_with p left n)) same;
+    more = λ item text s. omega arith;
+  }
+    where
+      ok_at : A → Position → Read A
+      ok_at item left = Ok (item, left)
+
+  pub takes_plainly : Reads read Spells → (p : Position) (item : A) (left : Position)
+      → IsBytes p.rest
+      → read p ≡ Ok (item, left)
+      → Plainly Spells p item left
+  takes_plainly law p item left fits e =
+      let t = law.takes p item left fits e in
+      let spare : left.spare ≡ p.spare = omega (arith, t.spent) in
+      record {
+        text = t.text;
+        parts = t.parts;
+        stays = t.stays ∙ ap (λ n. left_with p left.rest n) spare;
+        left_fits = t.left_fits;
+        spells = t.spells;
+      }
+
+  pub again_plainly : Reads read Spells → (p : Position) (item : A) (text left : List ℕ)
       → Spells item text
       → read (leaving p (text ++ left)) ≡ Ok (item, leaving p left)
+  again_plainly law p item text left s = law.again p item text left p.spare s refl
 
 -- the value of a step that did not fail
 pub bind_ok : {A B : Type 0} (r : Result A ClassFault) (f : A → Result B ClassFault) (y : B)
@@ -50,13 +128,23 @@ done x = Ok x
 pub ok_is : {A : Type 0} (x y : A) → done x ≡ done y → x ≡ y
 ok_is x y e = cc
 
+-- the same, where as much was counted before
+pub counted_before : {A : Type 0} {before other : ℕ} {weight : A → ℕ} {read : Position → Read A}
+    {Spells : A → List ℕ → Type 0}
+    → before ≡ other
+    → Weighs before weight read Spells
+    → Weighs other weight read Spells
+counted_before {weight} {read} {Spells} same law =
+    subst (λ (n : ℕ). Weighs n weight read Spells) same law
+
 -- ---- the same items, of which a relation says the same in other words
-pub reads_as : {A : Type 0} {read : Position → Read A} {Spells : A → List ℕ → Type 0}
+pub reads_as : {A : Type 0} {before : ℕ} {weight : A → ℕ} {read : Position → Read A}
+    {Spells : A → List ℕ → Type 0}
     (Says : A → List ℕ → Type 0)
-    → Reads read Spells
+    → Weighs before weight read Spells
     → ((item : A) (text : List ℕ) → Spells item text → Says item text)
     → ((item : A) (text : List ℕ) → Says item text → Spells item text)
-    → Reads read Says
+    → Weighs before weight read Says
 reads_as Says law to from = record {
   takes = λ p item left fits e.
       let t = law.takes p item left fits e in
@@ -64,21 +152,26 @@ reads_as Says law to from = record {
         text = t.text;
         parts = t.parts;
         stays = t.stays;
+        spent = t.spent;
         left_fits = t.left_fits;
         spells = to item t.text t.spells;
       };
-  again = λ p item text left s. law.again p item text left (from item text s);
+  again = λ p item text left spare s spent.
+      law.again p item text left spare (from item text s) spent;
+  more = λ item text s. law.more item text (from item text s);
 }
 
 -- ---- a reader that gives what another gives
-pub reads_same : {A : Type 0} {read other : Position → Read A} {Spells : A → List ℕ → Type 0}
+pub reads_same : {A : Type 0} {before : ℕ} {weight : A → ℕ} {read other : Position → Read A}
+    {Spells : A → List ℕ → Type 0}
     → ((p : Position) → read p ≡ other p)
-    → Reads other Spells
-    → Reads read Spells
+    → Weighs before weight other Spells
+    → Weighs before weight read Spells
 reads_same same law = record {
   takes = λ p item left fits e. law.takes p item left fits (sym (same p) ∙ e);
-  again = λ p item text left s.
-      same (leaving p (text ++ left)) ∙ law.again p item text left s;
+  again = λ p item text left spare s spent.
+      same (leaving p (text ++ left)) ∙ law.again p item text left spare s spent;
+  more = law.more;
 }
 
 -- a step of a row within a row is a step of the whole row
@@ -94,21 +187,34 @@ regrouped_step (Err fault) f g h same = refl
 abbrev pub Given : {A : Type 0} → A → A → List ℕ → Type 0
 Given made item text = (made ≡ item) × (text ≡ [])
 
-pub reads_given : {A : Type 0} (made : A) → Reads (λ p. Ok (made, p)) (Given made)
-reads_given {A} made = record {
+-- all of the item's weight was counted before
+pub weighs_given : {A : Type 0} {before : ℕ} {weight : A → ℕ} (made : A)
+    → before ≡ weight made
+    → Weighs before weight (λ p. Ok (made, p)) (Given made)
+weighs_given {A} {before} {weight} made all = record {
   takes = λ p item left fits e.
       let is = ok_is (made, p) (item, left) e in
       let same : p ≡ left = ap (λ (x : A × Position). x.1) is in
       let made_is : made ≡ item = ap (λ (x : A × Position). x.0) is in
-      subst (λ (q : Position). Takes (Given made) p item q) same (record {
+      subst (λ (q : Position). Takes before weight (Given made) p item q) same (record {
         text = [];
         parts = refl;
         stays = refl;
+        spent = ap (λ n. p.spare + n) (all ∙ ap weight made_is);
         left_fits = fits;
         spells = (made_is, refl);
       });
-  again = λ p item text left s. rw (s.0, s.1) refl;
+  again = λ p item text left spare s spent.
+      let counted : before ≡ weight item = all ∙ ap weight s.0 in
+      let same : p.spare ≡ spare = omega (arith, spent, counted) in
+      rw (s.0, s.1, same) refl;
+  more = λ item text s.
+      let counted : before ≡ weight item = all ∙ ap weight s.0 in
+      omega (arith, counted);
 }
+
+pub reads_given : {A : Type 0} (made : A) → Reads (λ p. Ok (made, p)) (Given made)
+reads_given made = weighs_given made refl
 
 -- ---- one item, and then another that may depend on it
 
@@ -146,84 +252,142 @@ pub record Made {A B : Type 0} (make : A → B) (Spells : A → List ℕ → Typ
   pub is : make item ≡ made
   pub spells : Spells item text
 
-pub reads_made : {A B : Type 0} {read : Position → Read A} {Spells : A → List ℕ → Type 0}
-    (make : A → B)
-    → Reads read Spells
-    → Reads (λ p. read p >>= λ x. Ok (make x.0, x.1)) (Made make Spells)
-reads_made {A} {B} {read} {Spells} make law = record {
+-- the weight of the item that is made has what was counted before, and that of the one it is made of
+pub weighs_made : {A B : Type 0} {before : ℕ} {own : A → ℕ} {weight : B → ℕ}
+    {read : Position → Read A} {Spells : A → List ℕ → Type 0} (make : A → B)
+    → ((item : A) → before + own item ≡ weight (make item))
+    → Weighs 0 own read Spells
+    → Weighs before weight (λ p. read p >>= λ x. Ok (make x.0, x.1)) (Made make Spells)
+weighs_made {A} {B} {before} {own} {weight} {read} {Spells} make sum law = record {
   takes = λ p made left fits e.
       let b = bind_ok (read p) (λ x. Ok (make x.0, x.1)) (made, left) e in
       let t = law.takes p b.0.0 b.0.1 fits b.1 in
       let is = ok_is (make b.0.0, b.0.1) (made, left) b.2 in
       let same : b.0.1 ≡ left = ap (λ (x : B × Position). x.1) is in
       let made_is : make b.0.0 ≡ made = ap (λ (x : B × Position). x.0) is in
-      subst (λ (q : Position). Takes (Made make Spells) p made q) same (record {
+      let weight_is : before + own b.0.0 ≡ weight made = sum b.0.0 ∙ ap weight made_is in
+      subst (λ (q : Position). Takes before weight (Made make Spells) p made q) same (record {
         text = t.text;
         parts = t.parts;
         stays = t.stays;
+        spent = omega (arith, t.spent, weight_is);
         left_fits = t.left_fits;
         spells = record { item = b.0.0; is = made_is; spells = t.spells };
       });
-  again = λ p made text left s.
-      ap (λ (r : Read A). r >>= λ x. Ok (make x.0, x.1)) (law.again p s.item text left s.spells)
-      ∙ ap (λ (m : B). done (m, leaving p left)) s.is;
+  again = λ p made text left spare s spent.
+      let weight_is : before + own s.item ≡ weight made = sum s.item ∙ ap weight s.is in
+      ap (λ (r : Read A). r >>= λ x. Ok (make x.0, x.1))
+      (law.again p s.item text left spare s.spells (omega (arith, spent, weight_is)))
+      ∙ ap (λ (m : B). done (m, left_with p left spare)) s.is;
+  more = λ made text s.
+      let weight_is : before + own s.item ≡ weight made = sum s.item ∙ ap weight s.is in
+      omega (arith, weight_is);
 }
 
--- the item that is made, and then one that depends on what it is made of
-pub reads_then_of : {A B C : Type 0} {read : Position → Read B} {make : A → B}
+pub reads_made : {A B : Type 0} {read : Position → Read A} {Spells : A → List ℕ → Type 0}
+    (make : A → B)
+    → Reads read Spells
+    → Reads (λ p. read p >>= λ x. Ok (make x.0, x.1)) (Made make Spells)
+reads_made make law = weighs_made make (λ item. refl) law
+
+-- The item that is made, and then one that depends on what it is made of. The weight of the first
+-- was counted before the second.
+pub weighs_then_of : {A B C : Type 0} {before : ℕ} {own : B → ℕ} {weight : C → ℕ}
+    {read : Position → Read B} {make : A → B}
     {First : A → List ℕ → Type 0} {Second : A → C → List ℕ → Type 0}
     (next : Position → B → Position → Read C)
-    → Reads read (Made make First)
-    → ((begun : Position) (item : A) → Reads (next begun (make item)) (Second item))
-    → Reads (λ p. read p >>= λ x. next p x.0 x.1) (Then First Second)
-reads_then_of {A} {B} {C} {read} {make} {First} {Second} next one two = record {
-  takes = λ p last left fits e.
-      let b = bind_ok (read p) (λ x. next p x.0 x.1) (last, left) e in
-      let t = one.takes p b.0.0 b.0.1 fits b.1 in
-      let m = t.spells in
-      let of_made : next p (make m.item) b.0.1 ≡ Ok (last, left) =
-      ap (λ (k : B). next p k b.0.1) m.is ∙ b.2 in
-      let u = (two p m.item).takes b.0.1 last left t.left_fits of_made in
-      record {
-        text = t.text ++ u.text;
-        parts = t.parts ∙ ap (λ (more : List ℕ). t.text ++ more) u.parts
-            ∙ sym (append_assoc t.text u.text left.rest);
-        stays = u.stays ∙ ap (λ (q : Position). leaving q left.rest) t.stays;
-        left_fits = u.left_fits;
-        spells = record {
-          item = m.item;
-          front = t.text;
-          rest = u.text;
-          whole = refl;
-          first = m.spells;
-          second = u.spells;
-        };
-      };
-  again = λ p last text left s.
-      let begun = leaving p (text ++ left) in
-      let regrouped : text ++ left ≡ s.front ++ (s.rest ++ left) =
-      ap (λ (t : List ℕ). t ++ left) s.whole ∙ append_assoc s.front s.rest left in
-      let spelled : Made make First (make s.item) s.front =
-      record { item = s.item; is = refl; spells = s.first } in
-      let one_is : read begun ≡ Ok (make s.item, leaving p (s.rest ++ left)) =
-      ap (λ (t : List ℕ). read (leaving p t)) regrouped
-      ∙ one.again p (make s.item) s.front (s.rest ++ left) spelled in
-      ap (λ (r : Read B). r >>= λ x. next begun x.0 x.1) one_is
-      ∙ (two begun s.item).again p last s.rest left s.second;
-}
+    → Weighs 0 own read (Made make First)
+    → ((begun : Position) (item : A)
+    → Weighs (before + own (make item)) weight (next begun (make item)) (Second item))
+    → Weighs before weight (λ p. read p >>= λ x. next p x.0 x.1) (Then First Second)
+weighs_then_of {A} {B} {C} {before} {own} {weight} {read} {make} {First} {Second} next one two =
+    record {
+      takes = λ p last left fits e.
+          let b = bind_ok (read p) (λ x. next p x.0 x.1) (last, left) e in
+          let t = one.takes p b.0.0 b.0.1 fits b.1 in
+          let m = t.spells in
+          let of_made : next p (make m.item) b.0.1 ≡ Ok (last, left) =
+          ap (λ (k : B). next p k b.0.1) m.is ∙ b.2 in
+          let u = (two p m.item).takes b.0.1 last left t.left_fits of_made in
+          let own_is : own (make m.item) ≡ own b.0.0 = ap own m.is in
+          record {
+            text = t.text ++ u.text;
+            parts = t.parts ∙ ap (λ (more : List ℕ). t.text ++ more) u.parts
+                ∙ sym (append_assoc t.text u.text left.rest);
+            stays = u.stays
+                ∙ ap (λ (q : Position). left_with q left.rest left.spare) t.stays;
+            spent = omega (arith, t.spent, u.spent, own_is);
+            left_fits = u.left_fits;
+            spells = record {
+              item = m.item;
+              front = t.text;
+              rest = u.text;
+              whole = refl;
+              first = m.spells;
+              second = u.spells;
+            };
+          };
+      again = λ p last text left spare s spent.
+          let begun = leaving p (text ++ left) in
+          let regrouped : text ++ left ≡ s.front ++ (s.rest ++ left) =
+          ap (λ (t : List ℕ). t ++ left) s.whole ∙ append_assoc s.front s.rest left in
+          let spelled : Made make First (make s.item) s.front =
+          record { item = s.item; is = refl; spells = s.first } in
+          let enough : before + own (make s.item) ≤ weight last =
+          (two begun s.item).more last s.rest s.second in
+          let middle = p.spare - own (make s.item) in
+          let q = left_with p (s.rest ++ left) middle in
+          let one_is : read begun ≡ Ok (make s.item, q) =
+          ap (λ (t : List ℕ). read (leaving p t)) regrouped
+          ∙ one.again p (make s.item) s.front (s.rest ++ left) middle spelled
+          (omega (arith, spent, enough)) in
+          ap (λ (r : Read B). r >>= λ x. next begun x.0 x.1) one_is
+          ∙ (two begun s.item).again q last s.rest left spare s.second
+          (omega (arith, spent, enough));
+      more = λ last text s.
+          let enough : before + own (make s.item) ≤ weight last =
+          (two (start []) s.item).more last s.rest s.second in
+          omega (arith, enough);
+    }
 
-pub reads_then : {A B : Type 0} {read : Position → Read A} {First : A → List ℕ → Type 0}
+pub weighs_then : {A B : Type 0} {before : ℕ} {own : A → ℕ} {weight : B → ℕ}
+    {read : Position → Read A} {First : A → List ℕ → Type 0}
     {Second : A → B → List ℕ → Type 0}
     (next : Position → A → Position → Read B)
-    → Reads read First
-    → ((begun : Position) (item : A) → Reads (next begun item) (Second item))
-    → Reads (λ p. read p >>= λ x. next p x.0 x.1) (Then First Second)
-reads_then {A} {B} {read} {First} {Second} next one two =
-    reads_then_of {make = λ (x : A). x} next
+    → Weighs 0 own read First
+    → ((begun : Position) (item : A)
+    → Weighs (before + own item) weight (next begun item) (Second item))
+    → Weighs before weight (λ p. read p >>= λ x. next p x.0 x.1) (Then First Second)
+weighs_then {A} {B} {own} {read} {First} {Second} next one two =
+    weighs_then_of {own = own} {make = λ (x : A). x} next
     (reads_as (Made (λ (x : A). x) First) one
     (λ item text s. record { item = item; is = refl; spells = s })
     (λ item text m. subst (λ (x : A). First x text) m.is m.spells))
     two
+
+-- the first names no texts
+pub reads_then_of : {A B C : Type 0} {before : ℕ} {weight : C → ℕ} {read : Position → Read B}
+    {make : A → B}
+    {First : A → List ℕ → Type 0} {Second : A → C → List ℕ → Type 0}
+    (next : Position → B → Position → Read C)
+    → Reads read (Made make First)
+    → ((begun : Position) (item : A)
+    → Weighs before weight (next begun (make item)) (Second item))
+    → Weighs before weight (λ p. read p >>= λ x. next p x.0 x.1) (Then First Second)
+reads_then_of {before} {make} next one two =
+    weighs_then_of {own = weightless} {make = make} next one
+    (λ begun item. counted_before (omega arith) (two begun item))
+
+pub reads_then : {A B : Type 0} {before : ℕ} {weight : B → ℕ} {read : Position → Read A}
+    {First : A → List ℕ → Type 0}
+    {Second : A → B → List ℕ → Type 0}
+    (next : Position → A → Position → Read B)
+    → Reads read First
+    → ((begun : Position) (item : A) → Weighs before weight (next begun item) (Second item))
+    → Weighs before weight (λ p. read p >>= λ x. next p x.0 x.1) (Then First Second)
+reads_then {before} next one two =
+    weighs_then {own = weightless} next one
+    (λ begun item. counted_before (omega arith) (two begun item))
 
 -- ---- a check that takes no bytes, and then an item
 
@@ -233,10 +397,11 @@ pub record Checked {A B : Type 0} (check : Result A ClassFault) (Second : A → 
   pub passed : check ≡ Ok item
   pub second : Second item last text
 
-pub reads_checked : {A B : Type 0} {Second : A → B → List ℕ → Type 0} (check : Result A ClassFault)
+pub reads_checked : {A B : Type 0} {before : ℕ} {weight : B → ℕ}
+    {Second : A → B → List ℕ → Type 0} (check : Result A ClassFault)
     (next : A → Position → Read B)
-    → ((item : A) → Reads (next item) (Second item))
-    → Reads (λ p. check >>= λ x. next x p) (Checked check Second)
+    → ((item : A) → Weighs before weight (next item) (Second item))
+    → Weighs before weight (λ p. check >>= λ x. next x p) (Checked check Second)
 reads_checked {A} {B} check next two = record {
   takes = λ p last left fits e.
       let b = bind_ok check (λ x. next x p) (last, left) e in
@@ -245,12 +410,14 @@ reads_checked {A} {B} check next two = record {
         text = u.text;
         parts = u.parts;
         stays = u.stays;
+        spent = u.spent;
         left_fits = u.left_fits;
         spells = record { item = b.0; passed = b.1; second = u.spells };
       };
-  again = λ p last text left s.
+  again = λ p last text left spare s spent.
       ap (λ (r : Result A ClassFault). r >>= λ x. next x (leaving p (text ++ left))) s.passed
-      ∙ (two s.item).again p last text left s.second;
+      ∙ (two s.item).again p last text left spare s.second spent;
+  more = λ last text s. (two s.item).more last text s.second;
 }
 
 -- ---- a test, and an item on each side
@@ -271,11 +438,12 @@ of_false : {A : Type 0} (One Two : A → List ℕ → Type 0) (item : A) (text :
 of_false One Two item text (inl s) = absurd (true≢false (sym s.0))
 of_false One Two item text (inr s) = s.1
 
-pub reads_if : {A : Type 0} (test : Bool) {one two : Position → Read A}
+pub reads_if : {A : Type 0} {before : ℕ} {weight : A → ℕ} (test : Bool)
+    {one two : Position → Read A}
     {One Two : A → List ℕ → Type 0}
-    → Reads one One
-    → Reads two Two
-    → Reads (λ p. cond test (one p) (two p)) (Either test One Two)
+    → Weighs before weight one One
+    → Weighs before weight two Two
+    → Weighs before weight (λ p. cond test (one p) (two p)) (Either test One Two)
 reads_if true {one} {two} {One} {Two} first second =
     reads_as (Either true One Two) first (λ item text s. inl (refl, s))
     (λ item text s. of_true One Two item text s)
@@ -287,11 +455,12 @@ reads_if false {one} {two} {One} {Two} first second =
 abbrev pub Never : {A : Type 0} → A → List ℕ → Type 0
 Never item text = ⊥
 
-pub reads_never : {A : Type 0} (fault : Position → ClassFault)
-    → Reads {A = A} (λ p. Err (fault p)) Never
+pub reads_never : {A : Type 0} {before : ℕ} {weight : A → ℕ} (fault : Position → ClassFault)
+    → Weighs before weight (λ p. Err (fault p)) Never
 reads_never fault = record {
   takes = λ p item left fits e. absurd cc;
-  again = λ p item text left s. absurd s;
+  again = λ p item text left spare s spent. absurd s;
+  more = λ item text s. absurd s;
 }
 
 -- ---- as many items as a count says
@@ -340,21 +509,24 @@ and_one Spells n items text s =
       each = (s.front, s.rest, s.whole, s.first, others.spells.each);
     })
 
-pub reads_times : {A : Type 0} {read : Position → Read A} {Spells : A → List ℕ → Type 0}
-    → Reads read Spells
+pub weighs_times : {A : Type 0} {weight : A → ℕ} {read : Position → Read A}
+    {Spells : A → List ℕ → Type 0}
+    → Weighs 0 weight read Spells
     → (n : ℕ)
-    → Reads (times read n) (Several Spells n)
+    → Weighs 0 (total weight) (times read n) (Several Spells n)
 unfolding times
-reads_times {Spells} law zero =
-    reads_as (Several Spells 0) (reads_given [])
+weighs_times {Spells} law zero =
+    reads_as (Several Spells 0) (weighs_given [] refl)
     (λ items text s.
     subst (λ v. Several Spells 0 v text) s.0 (record { length_is = refl; each = s.1 }))
     (none_read Spells)
-reads_times {read} {Spells} law (suc n) =
+weighs_times {weight} {read} {Spells} law (suc n) =
     reads_as (Several Spells (suc n))
-    (reads_then (λ begun item rest. times read n rest >>= λ items. Ok (item ∷ items.0, items.1))
+    (weighs_then
+    (λ begun item rest. times read n rest >>= λ items. Ok (item ∷ items.0, items.1))
     law
-    (λ begun item. reads_made (λ items. item ∷ items) (reads_times law n)))
+    (λ begun item.
+    weighs_made (λ items. item ∷ items) (λ items. omega arith) (weighs_times law n)))
     (and_one Spells n)
     (one_and Spells n)
 

@@ -5,8 +5,9 @@ use Rattle.std.specs.Prelude.{Option, Some, None, Result, Ok, Err, nat_lt, ◌==
 use Rattle.std.specs.Prelude.{if◌then◌else◌}
 use Rattle.std.specs.Int.{Width, w32, byte_len, from_be_bytes}
 use Rattle.std.specs.List.{AllByRecursion}
+use Rattle.class_desc.specs.declared.limits.TheConstants.{MOST_TEXT}
 use Rattle.pool_reader.specs.declared.fault.ClassKind.{ClassKind}
-use Rattle.pool_reader.specs.declared.fault.ClassKind.TheVariants.{F1, F8, F10}
+use Rattle.pool_reader.specs.declared.fault.ClassKind.TheVariants.{F1, F8, F10, F13}
 use Rattle.pool_reader.specs.declared.fault.ClassFault.{ClassFault}
 use Rattle.pool_reader.specs.declared.fault.ReadErr.{ReadErr}
 use Rattle.pool_reader.specs.declared.fault.ReadErr.TheVariants as errors
@@ -15,20 +16,25 @@ use Rattle.pool_reader.specs.declared.fault.ReadErr.TheVariants as errors
 abbrev pub AreBytes : List ℕ → Type 0
 AreBytes = AllByRecursion (λ b. b < 2 ^ 8)
 
--- Where a reading stands: what is left, the offset at which it ends, and, in the body of an
--- attribute, the offset of the length of that attribute.
+-- Where a reading stands: what is left, the offset at which it ends, in the body of an attribute
+-- the offset of the length of that attribute, and how many bytes of texts may still be named.
 pub record Position : Type 0 where
   pub rest : List ℕ
   pub end : ℕ
   pub outer : Option ℕ
+  pub spare : ℕ
 
 -- the same with these bytes left
 abbrev pub leaving : Position → List ℕ → Position
 leaving p rest = record p { rest = rest }
 
+-- the same with these bytes left, and room for as much text
+abbrev pub left_with : Position → List ℕ → ℕ → Position
+left_with p rest spare = record p { rest = rest; spare = spare }
+
 -- the position of a whole file
 abbrev pub start : List ℕ → Position
-start bytes = record { rest = bytes; end = length bytes; outer = None }
+start bytes = record { rest = bytes; end = length bytes; outer = None; spare = MOST_TEXT }
 
 -- the offset of the next item
 abbrev pub offset : Position → ℕ
@@ -86,6 +92,12 @@ number_at w p =
     if nat_lt (length p.rest) (byte_len w) then Err (cut p)
     else Ok (from_be_bytes w (take (byte_len w) p.rest), leaving p (drop (byte_len w) p.rest))
 
+-- Nothing is read: a text of as many bytes is named by the item at this offset.
+unfoldable pub spent_at : ℕ → ℕ → Position → Read (Unit {0})
+spent_at at n p =
+    if nat_lt p.spare n then Err (fault_at at F13) else Ok
+    (tt, left_with p p.rest (p.spare - n))
+
 -- as many items as that, one behind the other
 unfoldable pub times : {A : Type 0} → (Position → Read A) → ℕ → Position → Read (List A)
 times read zero p = Ok ([], p)
@@ -107,7 +119,10 @@ unfoldable pub body_at : Position → Read Position
 body_at p = do
   count ← number_at w32 p
   body ← piece_at count.0 count.1
-  Ok (record { rest = body.0; end = offset body.1; outer = Some (offset p) }, body.1)
+  Ok (
+    record { rest = body.0; end = offset body.1; outer = Some (offset p); spare = p.spare },
+    body.1,
+  )
 
 abbrev pub left_over : Position → Option ℕ → ClassFault
 left_over p None = told p F10
@@ -117,10 +132,14 @@ left_over p (Some length_at) = fault_at length_at F8
 abbrev pub ended : Position → Result (Unit {0}) ClassFault
 ended p = if length p.rest == 0 then Ok tt else Err (left_over p p.outer)
 
+-- behind a body, of which this is the end, with the room for texts that it leaves
+abbrev pub behind_body : Position → Position → Read (Unit {0})
+behind_body body p = ended body >>= λ end. Ok (tt, left_with p p.rest body.spare)
+
 -- an item that is the whole body of an attribute
 abbrev pub within : {A : Type 0} → (Position → Read A) → Position → Read A
 within read p = do
   body ← body_at p
   item ← read body.0
-  end ← ended item.1
-  Ok (item.0, body.1)
+  behind ← behind_body item.1 body.1
+  Ok (item.0, behind.1)

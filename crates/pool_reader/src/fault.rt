@@ -30,6 +30,8 @@ pub enum ClassKind {
     F11,
     /// A value or a signature is nested too deep.
     F12,
+    /// The texts that are named have more bytes in all than a description may have.
+    F13,
 }
 
 /// The first check that failed, and the offset of the item that it is about.

@@ -3,13 +3,16 @@ ghost use Rattle.std.specs.Int.{w8, w16, w32, w64};
 ghost use Rattle.pool_reader.specs.declared.fault.ReadErr.TheVariants.{Fault};
 ghost use Rattle.pool_reader.specs.Reading.{Gives, cut as cut_of, offset as offset_of};
 ghost use Rattle.pool_reader.specs.Reading.{number_at, piece_at, start, body_at, Answers};
-ghost use Rattle.pool_reader.specs.Reading.{ended, left_over as left_over_of};
+ghost use Rattle.pool_reader.specs.Reading.{ended, left_over as left_over_of, spent_at};
+ghost use Rattle.pool_reader.specs.Reading.{behind_body};
 
 use crate::fault::{ClassKind, ReadErr};
+use class_desc::MOST_TEXT;
 use std::marker::Model;
 
 /// Where a reading of a class file stands: the bytes that are left, the offset at which they end,
-/// and the offset of the length of the attribute whose body they are, if they are one.
+/// the offset of the length of the attribute whose body they are, if they are one, and how many
+/// bytes of texts may still be named.
 ///
 /// A method that fails leaves the reader anywhere: reading ends there.
 #[derive(Drop)]
@@ -17,6 +20,7 @@ pub struct Reader<'a> {
     rest: &'a [u8],
     end: u32,
     outer: Option<u32>,
+    spare: usize,
 }
 
 impl<'a> Model for Reader<'a> {
@@ -28,6 +32,7 @@ impl<'a> Model for Reader<'a> {
       rest = reader.rest.now;
       end = reader.end;
       outer = reader.outer;
+      spare = reader.spare;
     } };
 }
 
@@ -41,6 +46,7 @@ impl<'a> Reader<'a> {
             rest: bytes,
             end: bytes.len() as u32,
             outer: None,
+            spare: MOST_TEXT,
         }
     }
 
@@ -120,8 +126,21 @@ impl<'a> Reader<'a> {
         Ok(u64::from_be_bytes([b[0], b[1], b[2], b[3], b[4], b[5], b[6], b[7]]))
     }
 
+    /// Takes note of a text of as many bytes, which the item at this offset names: F13 there where
+    /// there is no room for it.
+    #[tactic(auto, unfolding(crate::specs::Reading::spent_at))]
+    pub fn spend(&mut self, at: u32, bytes: usize) -> Result<(), ReadErr>
+        ensures { Gives (λ _. tt) result self.new (spent_at at bytes self.old) }
+    {
+        if self.spare < bytes {
+            return Err(ClassKind::F13.at(at));
+        }
+        self.spare -= bytes;
+        Ok(())
+    }
+
     /// A reader of the body of an attribute, whose length is the next item (JVMS 4.7). This one
-    /// goes on behind the body.
+    /// goes on behind the body, with [`leave`](Reader::leave).
     #[tactic(auto, unfolding(crate::specs::Reading::body_at))]
     pub fn body(&mut self) -> Result<Reader<'a>, ReadErr>
         ensures { Gives (λ body. body) result self.new (body_at self.old) }
@@ -133,7 +152,17 @@ impl<'a> Reader<'a> {
             rest,
             end: self.offset(),
             outer: Some(length_at),
+            spare: self.spare,
         })
+    }
+
+    /// Goes on behind a body, of which no byte may be left.
+    pub fn leave(&mut self, body: &Reader<'a>) -> Result<(), ReadErr>
+        ensures { Gives (λ _. tt) result self.new (behind_body body.now self.old) }
+    {
+        body.finish()?;
+        self.spare = body.spare;
+        Ok(())
     }
 
     /// The fault of bytes that are left.

@@ -17,10 +17,11 @@ returns-in_err-next c =
 
 pub loop-preserved : goal.loop-preserved
 loop-preserved c =
-    rw (c.in_ok-push.ensures.items, c.in_ok-next.ensures.seen)
-    (next_goes_on c.args.pool.now c.loop.seen c.loop.entries.items c.args.count c.loop.counter
-    c.loop.reader c.inner_class.new.reader c.in_ok-next.next _ c.loop-test.true
-    c.in_ok-next.ensures.entry c.loop.invariant.0 c.loop.invariant.1)
+    rw c.in_ok-push.ensures.items
+    (next_goes_on c.args.pool.now c.loop.seen c.inner_class.new.seen c.loop.entries.items
+    c.args.count c.loop.counter c.loop.reader c.inner_class.new.reader c.in_ok-next.next _
+    c.loop-test.true c.in_ok-next.ensures.entry c.in_ok-next.ensures.seen c.loop.invariant.0
+    c.loop.invariant.1)
 
 pub returns : goal.returns
 returns c =

@@ -1,12 +1,13 @@
 use Rattle.std.proofs.Common.{◌≡◌, ℕ, Bool, true, false, cond, not, Result, Ok, Err, refl, sym, ap}
-use Rattle.std.proofs.Common.{◌∙◌}
+use Rattle.std.proofs.Common.{◌∙◌, ◌++◌, ◌∷◌, List, []}
 use Rattle.std.specs.List.{list_any}
 use Rattle.java_names.specs.Names.{is_text}
 use Rattle.pool_reader.specs.declared.fault.ClassFault.{ClassFault}
 use Rattle.pool_reader.specs.declared.fault.ClassKind.TheVariants.{F9}
 use Rattle.pool_reader.specs.Reading.{fault_at}
+use Rattle.attribute_reader.specs.Attributes.{HaveSame}
 use Rattle.attribute_reader.specs.declared.bodies.InnerKey.{InnerKey}
-use Rattle.attribute_reader.proofs.Keys.{any_seen}
+use Rattle.attribute_reader.proofs.Keys.{names, any_seen, with_key}
 use Rattle.attribute_reader.proofs.bodies.SeenClasses.add.Goals as goal
 use Rattle.attribute_reader.proofs.bodies.SeenClasses.add.Goals.{then-branch, else-branch}
 
@@ -45,4 +46,18 @@ returns-clause-unseen c =
           (accepted c.args.at there c.in_ok-insert.field-0 e w.if-branch.true)
       | else-branch w ↦ rw (w.result-is, w.at.ensures)
           (refused c.args.at there c.in_ok-insert.field-0 e w.if-branch.false)
+    ]
+
+pub returns-clause-seen : goal.returns-clause-seen
+returns-clause-seen c =
+    let key : InnerKey = record { name = c.args.name } in
+    let same : HaveSame (names c.insert.new.self.keys) (c.args.self.now ++ c.args.name.now ∷ []) =
+    λ text. ap (λ (keys : List InnerKey). list_any (is_text text) (names keys))
+    c.in_ok-insert.ensures.keys
+    ∙ with_key key c.self.inside.keys.keys text
+    ∙ ap (λ (seen : List (List ℕ)). list_any (is_text text) (seen ++ c.args.name.now ∷ []))
+    c.self.view_is in
+    elim c.if-branch.branch [
+      | then-branch w ↦ rw w.result-is same
+      | else-branch w ↦ rw w.result-is tt
     ]

@@ -1,12 +1,14 @@
 use Rattle.std.proofs.Common.{◌≡◌, ℕ, Bool, true, false, cond, not, Result, Ok, Err, refl, sym, ap}
-use Rattle.std.proofs.Common.{◌∙◌}
+use Rattle.std.proofs.Common.{◌∙◌, ◌++◌, ◌∷◌, List, [], map}
 use Rattle.std.specs.List.{list_any}
-use Rattle.class_desc.specs.ClassFile.{is_key}
+use Rattle.class_desc.specs.ClassFile.{Key, is_key}
 use Rattle.pool_reader.specs.declared.fault.ClassFault.{ClassFault}
 use Rattle.pool_reader.specs.declared.fault.ClassKind.TheVariants.{F9}
 use Rattle.pool_reader.specs.Reading.{fault_at}
 use Rattle.class_reader.specs.declared.member.MemberKey.{MemberKey}
-use Rattle.class_reader.proofs.Keys.{any_seen}
+use Rattle.class_reader.specs.Reading.{HaveSame}
+use Rattle.class_reader.specs.Seen.{key_seen}
+use Rattle.class_reader.proofs.Keys.{any_seen, with_key}
 use Rattle.class_reader.proofs.member.SeenMembers.add.Goals as goal
 use Rattle.class_reader.proofs.member.SeenMembers.add.Goals.{then-branch, else-branch}
 
@@ -45,4 +47,19 @@ returns-clause-unseen c =
           (accepted c.args.at there c.in_ok-insert.field-0 e w.if-branch.true)
       | else-branch w ↦ rw (w.result-is, w.at.ensures)
           (refused c.args.at there c.in_ok-insert.field-0 e w.if-branch.false)
+    ]
+
+pub returns-clause-seen : goal.returns-clause-seen
+returns-clause-seen c =
+    let key : MemberKey = record { name = c.args.name; descriptor = c.args.descriptor } in
+    let same : HaveSame (map key_seen c.insert.new.self.keys)
+    (c.args.self.now ++ (c.args.name.now, c.args.descriptor.now) ∷ []) =
+    λ other. ap (λ (keys : List MemberKey). list_any (is_key other) (map key_seen keys))
+    c.in_ok-insert.ensures.keys
+    ∙ with_key key c.self.inside.keys.keys other
+    ∙ ap (λ (seen : List Key). list_any (is_key other)
+    (seen ++ (c.args.name.now, c.args.descriptor.now) ∷ [])) c.self.view_is in
+    elim c.if-branch.branch [
+      | then-branch w ↦ rw w.result-is same
+      | else-branch w ↦ rw w.result-is tt
     ]
