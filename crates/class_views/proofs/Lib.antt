@@ -6,6 +6,7 @@ pub mod Settled
 pub mod Staying
 pub mod Stripped
 pub mod StrippedAttributes
+pub mod StrippedTexts
 pub mod Viewed
 pub mod Ways
 pub mod Worlds

@@ -129,7 +129,7 @@ module _ (pool : List Entry) where
   method_fine m bytes s = one_of_a_kind m.attrs s.attributed.distinct
 
 pub one_of_each : (d : ClassDesc) → IsValid d → HasOneOfEach d
-one_of_each d (bytes, all, (pool, s)) = record {
+one_of_each d (bytes, all, (pool, s, few)) = record {
   own = one_of_a_kind d.attrs s.attributes.distinct;
   fields = all_spelled (FieldSpells pool) (λ f. HasOneOfAKind f.attrs) (field_fine pool)
       d.fields s.fields.rest s.fields.each;

@@ -1,7 +1,7 @@
 -- A file of the stripped description has the pool of the description's file, of the bytes of the
 -- members those of the members that stay, and the bytes of what is left of the attributes.
 use Rattle.std.proofs.Common.{◌≡◌, ◌∙◌, ℕ, ◌+◌, List, [], ◌++◌, length, refl, sym}
-use Rattle.std.proofs.Common.{subst, append_assoc}
+use Rattle.std.proofs.Common.{subst, append_assoc, arith}
 use Rattle.std.specs.List.{flat_map}
 use Rattle.std.specs.Int.{w16, w32, to_be_bytes}
 use Rattle.class_desc.specs.declared.class.ClassDesc.{ClassDesc}
@@ -14,6 +14,7 @@ use Rattle.class_views.specs.Strip.{stays_field, stays_method, strip_class}
 use Rattle.lemmas.proofs.Lists.{all_append, all_front, all_behind}
 use Rattle.class_views.proofs.Filtered.{IsByte, AreBytes, distinct_stay, counted_stay}
 use Rattle.class_views.proofs.StrippedAttributes.{attributes_left}
+use Rattle.class_views.proofs.StrippedTexts.{stripped_texts}
 
 -- the parts of a file in front of its members
 before_members : ClassDesc → List Entry → Parts → List ℕ
@@ -40,7 +41,7 @@ in_two d pool p =
 
 pub stripped_valid : (d : ClassDesc) → IsValid d → IsValid (strip_class d)
 unfolding before_members
-stripped_valid d (bytes, all, (pool, s)) =
+stripped_valid d (bytes, all, (pool, s, few)) =
     let p = s.parts in
     let front = before_members d pool p in
     let parts : AreBytes (front ++ (p.fields ++ (p.methods ++ p.attributes))) =
@@ -89,5 +90,6 @@ stripped_valid d (bytes, all, (pool, s)) =
               s.distinct_methods;
           attributes = attributes.spelled;
         },
+        omega (arith, stripped_texts d, few),
       ),
     )

@@ -5,4 +5,5 @@ pub mod Fields
 pub mod Hiding
 pub mod Methods
 pub mod Rings
+pub mod Telling
 pub mod Views

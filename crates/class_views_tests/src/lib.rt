@@ -8,6 +8,7 @@ ghost use Rattle.class_views_tests.specs.Fields.{field_examples};
 ghost use Rattle.class_views_tests.specs.Hiding.{HidingAgrees};
 ghost use Rattle.class_views_tests.specs.Methods.{class_examples, interface_examples};
 ghost use Rattle.class_views_tests.specs.Rings.{ring_examples};
+ghost use Rattle.class_views_tests.specs.Telling.{choice_examples, access_examples};
 ghost use Rattle.class_views_tests.specs.Views.{ClassAgrees, FieldAgrees, MethodAgrees};
 ghost use Rattle.class_views_tests.specs.Views.{PlainAgrees};
 
@@ -18,6 +19,8 @@ pub fn answers_agree()
     ensures interfaces { Agree interface_examples }
     ensures classes { Agree class_examples }
     ensures declared { Agree declared_examples }
+    ensures choice { Agree choice_examples }
+    ensures access { Agree access_examples }
     ensures hiding { HidingAgrees }
 {}
 

@@ -1,11 +1,11 @@
 -- Steps of loops over a list, and what a part of a list says of it.
-use Rattle.std.proofs.Common.{◌≡◌, ℕ, ◌+◌, ◌-◌, ◌<◌, arith, Bool, true, false, cond, ◌||◌, List}
+use Rattle.std.proofs.Common.{◌≡◌, ℕ, ◌+◌, ◌<◌, Bool, true, false, cond, ◌||◌, List}
 use Rattle.std.proofs.Common.{[], ◌∷◌, ◌++◌, length, map, take, drop, get_or, refl, ap, ◌∙◌, sym}
 use Rattle.std.specs.Prelude.{filter, replicate, Option, Some, None, unwrap_or, if◌then◌else◌}
 use Rattle.std.specs.Option.{option_or, option_map_or}
 use Rattle.std.specs.List.{list_any, flat_map}
 use Rattle.std.proofs.lemmas.List.{append-nil, append_assoc, take_more, take-append-drop}
-use Rattle.std.proofs.lemmas.List.{map_push, get_or-map, length-map, length-drop, drop_more}
+use Rattle.std.proofs.lemmas.List.{map_push, get_or-map, length-map}
 use Rattle.std.proofs.lemmas.List.Concat.{flat_map-append}
 use Rattle.std.proofs.lemmas.List.Folds.{list_any-append, list_any_at}
 use Rattle.class_desc.specs.declared.attribute.Attr.{Attr, out-Attr}
@@ -84,22 +84,6 @@ module _ {X : Type 0} where
       ap f is ∙ (sym (get_or-map f xs i x (f x) inside)
       ∙ (ap (λ list. get_or list i (f x)) alike
       ∙ (get_or-map g ys i y (f x) within ∙ ap g (sym at))))
-
--- what an iterator gives next
-pub record IsNext {X : Type 0} (all : List X) (i : ℕ) (x : X) (rest : List X) : Type 0 where
-  pub inside : i < length all
-  pub is : x ≡ get_or all i x
-  pub rest_is : rest ≡ drop (i + 1) all
-
-pub next_at : {X : Type 0} (all left rest : List X) (i : ℕ) (x : X) → left ≡ drop i all →
-    left ≡ x ∷ rest → IsNext all i x rest
-next_at all left rest i x is taken =
-    let few : length (drop i all) ≡ length all - i = length-drop i all in
-    let some : length (drop i all) ≡ length (x ∷ rest) = ap length (sym is ∙ taken) in
-    let inside : i < length all = omega arith in
-    let opened : x ∷ rest ≡ get_or all i x ∷ drop (i + 1) all =
-    sym taken ∙ (is ∙ drop_more all i x inside) in
-    record { inside = inside; is = cc opened; rest_is = cc opened }
 
 pub as_many : {X Y Z : Type 0} (f : X → Z) (g : Y → Z) (xs : List X) (ys : List Y) →
     map f xs ≡ map g ys → length xs ≡ length ys

@@ -31,6 +31,16 @@ unfolding ask fold_at field_resolution specific method_resolution interface_meth
     members_at members
 returns-clause-declared c = refl
 
+pub returns-clause-choice : goal.returns-clause-choice
+unfolding ask fold_at field_resolution specific method_resolution interface_method_resolution
+    members_at members
+returns-clause-choice c = refl
+
+pub returns-clause-access : goal.returns-clause-access
+unfolding ask fold_at field_resolution specific method_resolution interface_method_resolution
+    members_at members
+returns-clause-access c = refl
+
 pub returns-clause-hiding : goal.returns-clause-hiding
 unfolding is_hidden fold_at
 returns-clause-hiding c = refl

@@ -4,7 +4,8 @@ use Rattle.std.proofs.lemmas.List.{map-id}
 use Rattle.class_desc.specs.declared.attribute.Attr.{Attr}
 use Rattle.class_views.specs.Strip.{strip_attribute}
 use Rattle.ijar_strip.specs.Marks.{attribute_marks, entries_of}
-use Rattle.ijar_strip.proofs.Loops.{IsNext, next_at, flat_step, mapped_at, as_many}
+use Rattle.lemmas.proofs.Iterated.{IsNext, next_at}
+use Rattle.ijar_strip.proofs.Loops.{flat_step, mapped_at, as_many}
 use Rattle.ijar_strip.proofs.attributes.keep_attributes.Goals as goal
 
 pub push_kept-requires : goal.push_kept-requires

@@ -7,7 +7,8 @@ use Rattle.class_desc.specs.declared.class.ClassDesc.{ClassDesc}
 use Rattle.class_views.specs.Strip.{strip_class}
 use Rattle.class_views.specs.Kept.{is_kept, strip_each}
 use Rattle.projection.proofs.Written.{left_keeps}
-use Rattle.ijar_strip.proofs.Loops.{IsNext, next_at, map_step, mapped_at, as_many}
+use Rattle.lemmas.proofs.Iterated.{IsNext, next_at}
+use Rattle.ijar_strip.proofs.Loops.{map_step, mapped_at, as_many}
 use Rattle.ijar_strip.proofs.stripping.into_all_stripped.Goals as goal
 
 pub loop-desc-preserved : goal.loop-desc-preserved
