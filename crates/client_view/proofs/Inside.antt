@@ -1,10 +1,10 @@
 -- What the lists of a world tell of its classes.
-use Rattle.std.proofs.Common.{◌≡◌, refl, sym, ℕ, ◌<◌, arith, List, length, Option}
+use Rattle.std.proofs.Common.{◌≡◌, refl, ap, sym, ◌∙◌, ℕ, ◌<◌, arith, Bool, List, length, Option}
 use Rattle.std.proofs.Common.{Some}
 use Rattle.std.proofs.Common.{None}
-use Rattle.std.specs.Prelude.{slice_get, slice_index_or, IfSome, option_and_then}
+use Rattle.std.specs.Prelude.{slice_get, slice_index_or, IfSome, option_and_then, option_map}
 use Rattle.std.proofs.lemmas.List.{length-map}
-use Rattle.std.proofs.lemmas.Option.{slice_get_within}
+use Rattle.std.proofs.lemmas.Option.{slice_get_within, slice_get-map}
 use Rattle.supertypes.specs.Rings.{IsLeastRing}
 use Rattle.class_desc.specs.declared.class.ClassDesc.{ClassDesc}
 use Rattle.class_views.specs.View.{View, view_of_desc}
@@ -13,7 +13,7 @@ use Rattle.client_view.specs.Indexed.{IsIndexed}
 use Rattle.client_view.specs.Numbers.{views, number_of}
 use Rattle.client_view.specs.Refusals.{IsFree}
 use Rattle.client_view.specs.declared.world.ClientWorld.TheInside.{Inside}
-use Rattle.client_view.proofs.Graphs.{reach_there}
+use Rattle.client_view.proofs.Graphs.{reach_there, get_there}
 use Rattle.client_view.proofs.Numbered.{number_within}
 use Rattle.client_view.proofs.Rings.{ring_by_number}
 

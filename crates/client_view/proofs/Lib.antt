@@ -13,6 +13,7 @@ pub mod Inside
 pub mod Interfaces
 pub mod Meeting
 pub mod Methods
+pub mod Noted
 pub mod Numbered
 pub mod Own
 pub mod Placed
@@ -24,6 +25,7 @@ pub mod Said
 pub mod Slashes
 pub mod Soles
 pub mod Specific
+pub mod Standing
 pub mod Starts
 pub mod Told
 pub mod Walks

@@ -1,25 +1,18 @@
 -- What a world keeps beside its classes.
-use Rattle.std.specs.Prelude.{◌≡◌, ◌≤◌, ◌<◌, ◌^◌, ℕ, List, [], length, slice_get, slice_index_or}
-use Rattle.std.specs.Prelude.{Option, Some, None, option_to_list}
+pub use Rattle.member_index.specs.Index.{HasFewMembers, HaveFewMembers}
+use Rattle.std.specs.Prelude.{◌≡◌, ◌≤◌, ◌<◌, ◌^◌, ℕ, List, [], length, slice_index_or}
+use Rattle.std.specs.Prelude.{Option, None, option_to_list}
 use Rattle.std.specs.Vec.{vec_capacity}
-use Rattle.std.specs.HashMap.{get}
-use Rattle.java_names.specs.Names.{is_text}
+use Rattle.std.specs.BTreeMap.{get}
+use Rattle.std.specs.Cmp.Lexicographic.{slice_cmp}
+use Rattle.std.specs.Ordering.{nat_cmp}
 use Rattle.class_desc.specs.ClassFile.{object_name}
-use Rattle.class_desc.specs.declared.class.ClassDesc.{ClassDesc}
 use Rattle.class_views.specs.View.{View}
 use Rattle.class_views.specs.World.{supertypes}
+use Rattle.member_index.specs.Index.{IsIndexOf}
 use Rattle.supertypes.specs.Rings.{IsLeastRing}
 use Rattle.client_view.specs.Numbers.{views, number_of, AreApart, IsGraphOf}
 use Rattle.client_view.specs.declared.world.ClientWorld.TheInside.{Inside}
-
--- members are numbered by 32 bits
-pub record HasFewMembers (class : ClassDesc) : Type 0 where
-  pub fields : length class.fields < 2 ^ 32
-  pub methods : length class.methods < 2 ^ 32
-
-abbrev pub HaveFewMembers : List ClassDesc → Type 0
-HaveFewMembers classes =
-    (number : ℕ) (class : ClassDesc) → slice_get classes number ≡ Some class → HasFewMembers class
 
 abbrev pub superclasses : View → List (List ℕ)
 superclasses c = option_to_list c.super_name
@@ -33,11 +26,12 @@ pub record IsIndexed (w : Inside) : Type 0 where
   pub few : length w.classes.items < 2 ^ 32
   pub members : HaveFewMembers w.classes.items
   pub apart : AreApart (views w.classes.items)
-  pub numbers : (name : List ℕ) → get is_text w.numbers name ≡ number_of (views w.classes.items)
-      name
+  pub numbers : (name : List ℕ) →
+      get (slice_cmp nat_cmp) w.numbers name ≡ number_of (views w.classes.items) name
   pub supertypes_are : IsGraphOf (views w.classes.items) supertypes w.supertypes
   pub superclasses_are : IsGraphOf (views w.classes.items) superclasses w.superclasses
   pub rings : AreRings w.supertypes w.rings.items
+  pub members_are : IsIndexOf w.members w.classes.items
   pub room : w.search ≡ record { classes = length w.classes.items; list = [] }
   pub object : w.object ≡ number_of (views w.classes.items) object_name
   pub candidates : w.candidates.items ≡ []

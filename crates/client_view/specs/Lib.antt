@@ -4,3 +4,4 @@ pub mod Numbers
 pub mod Refusals
 pub mod Replies
 pub mod Sole
+pub mod Sought

@@ -10,6 +10,7 @@ mod package;
 mod refusal;
 mod refused;
 mod reply;
+mod sought;
 mod superinterfaces;
 mod world;
 

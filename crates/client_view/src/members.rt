@@ -1,38 +1,37 @@
 //! The members that a class declares.
-ghost use Rattle.std.specs.Prelude.{◌≡◌, ◌&&◌, ◌<◌, ◌^◌, IfSome, MatchOption, None, Some};
-ghost use Rattle.std.specs.Prelude.{length, position, slice_get, is_some, not, if◌then◌else◌};
+ghost use Rattle.std.specs.Prelude.{◌≡◌, ◌<◌, ◌^◌, IfSome, MatchOption, None, Some, length};
+ghost use Rattle.std.specs.Prelude.{find, position, slice_get, is_some, if◌then◌else◌};
 ghost use Rattle.std.specs.Prelude.{option_and_then};
 ghost use Rattle.std.specs.List.{list_any};
 ghost use Rattle.class_desc.specs.declared.attribute.Attr.{out-Attr};
 ghost use Rattle.class_views.specs.Flags.{has_flag as has_flag_of};
 ghost use Rattle.class_views.specs.View.{constant_in, first_attribute};
-ghost use Rattle.java_names.specs.Names.{is_text};
 ghost use Rattle.class_views.specs.Resolution.{field_in, method_in, interface_method_in};
 ghost use Rattle.class_views.specs.Resolution.{object_method_in};
+ghost use Rattle.member_index.specs.Index.{IsIndexOf, passes_at};
 ghost use Rattle.client_view.specs.Indexed.{HaveFewMembers};
-ghost use Rattle.client_view.specs.Members.{declares, declared_at, Meets, named};
+ghost use Rattle.client_view.specs.Members.{declares, declared_at, Meets};
 ghost use Rattle.client_view.specs.Members.{constant_in_class, field_named_in};
 ghost use Rattle.client_view.specs.Numbers.{views};
 ghost use Rattle.client_view.specs.Replies.{fields_of, methods_of};
 ghost use Rattle.client_view.specs.Sole.{is_concrete as is_concrete_of};
+ghost use Rattle.client_view.specs.Sought.{meant, holds_constant, is_inherited};
+ghost use Rattle.client_view.specs.Sought.{is_shared as is_shared_method};
 
 use crate::flags::{ABSTRACT, FINAL, INTERFACE, PRIVATE, PUBLIC, STATIC, has_flag};
 use crate::reply::MemberAt;
+use crate::sought::{
+    Sought, field_place, item_at, method_place, method_places, place_at, place_of,
+};
 use class_desc::{Attr, ClassDesc, FieldDesc, MethodDesc};
 use hdr_core::Text;
+use member_index::MemberIndex;
 
 /// A field or a method that was met, with its flags.
 #[derive(Clone, Copy)]
 pub struct Met {
     pub at: MemberAt,
     pub flags: u16,
-}
-
-fn desc_at(classes: &[ClassDesc], class: u32) -> Option<&ClassDesc>
-    ensures { MatchOption result (slice_get classes.now class ≡ None)
-        (λ desc. slice_get classes.now class ≡ Some desc.now) }
-{
-    classes.get(class as usize)
 }
 
 fn met_at(class: u32, index: usize, flags: u16) -> Met
@@ -48,45 +47,37 @@ fn met_at(class: u32, index: usize, flags: u16) -> Met
     }
 }
 
-// ---- the places of members
-
-fn is_field(field: &FieldDesc, name: &Text, descriptor: &Text) -> bool
-    ensures { result ≡ (is_text field.now.name name.now
-        && is_text field.now.descriptor descriptor.now) }
-{
-    field.name == *name && field.descriptor == *descriptor
-}
-
-fn field_place(fields: &[FieldDesc], name: &Text, descriptor: &Text) -> Option<usize>
-    ensures { result ≡ position (λ f. is_text f.name name.now
-        && is_text f.descriptor descriptor.now) fields.now }
-{
-    fields.iter().position(|f| is_field(f, name, descriptor))
-}
-
 // ---- fields
 
-/// Whether a class declares a field of the name and descriptor.
-pub fn has_field(classes: &[ClassDesc], class: u32, name: &Text, descriptor: &Text) -> bool
-    ensures { result ≡ declares (views classes.now)
-        (field_in (named name.now descriptor.now)) class }
+/// Whether a class declares a field that is sought.
+pub fn has_field(
+    classes: &[ClassDesc],
+    index: &MemberIndex,
+    class: u32,
+    sought: &Sought<'_>,
+) -> bool
+    ensures { IsIndexOf index.now classes.now →
+        result ≡ declares (views classes.now) (field_in (meant sought.now)) class }
 {
-    match desc_at(classes, class) {
-        Some(desc) => field_place(desc.fields.items(), name, descriptor).is_some(),
-        None => false,
-    }
+    field_place(classes, index, class, sought).is_some()
 }
 
-/// The first field of the name and descriptor that a class declares.
-pub fn field_at(classes: &[ClassDesc], class: u32, name: &Text, descriptor: &Text) -> Option<Met>
-    requires { HaveFewMembers classes.now }
+/// The first field that is sought and that a class declares.
+pub fn field_at(
+    classes: &[ClassDesc],
+    index: &MemberIndex,
+    class: u32,
+    sought: &Sought<'_>,
+) -> Option<Met>
+    requires few { HaveFewMembers classes.now }
+    requires indexed { IsIndexOf index.now classes.now }
     ensures met { Meets (views classes.now) fields_of result
-        (declared_at (views classes.now) (field_in (named name.now descriptor.now)) class) }
+        (declared_at (views classes.now) (field_in (meant sought.now)) class) }
     ensures there { IfSome result (λ met. met.at.class < length classes.now) }
 {
-    match desc_at(classes, class) {
+    match item_at(classes, class as usize) {
         Some(desc) => {
-            let place = field_place(desc.fields.items(), name, descriptor);
+            let place = field_place(classes, index, class, sought);
             field_met(desc, class, place)
         }
         None => None,
@@ -132,31 +123,54 @@ fn has_constant(field: &FieldDesc) -> bool
     has_constant_value(field.attrs.items())
 }
 
-/// A final field of the name that has a constant (JVMS 4.7.2).
-fn is_constant(field: &FieldDesc, name: &Text) -> bool
-    ensures { result ≡ (is_text field.now.name name.now && has_flag_of 0x0010 field.now.flags
-        && is_some (first_attribute constant_in field.now.attrs)) }
+/// Whether a field is final and has a constant (JVMS 4.7.2).
+fn is_constant(field: &FieldDesc) -> bool
+    ensures { result ≡ holds_constant field.now }
 {
-    field.name == *name && has_flag(FINAL, field.flags) && has_constant(field)
+    has_flag(FINAL, field.flags) && has_constant(field)
 }
 
-fn constant_place(fields: &[FieldDesc], name: &Text) -> Option<usize>
-    ensures { result ≡ position (λ f. is_text f.name name.now && has_flag_of 0x0010 f.flags
-        && is_some (first_attribute constant_in f.attrs)) fields.now }
+fn is_constant_at(fields: &[FieldDesc], place: u32) -> bool
+    ensures { result ≡ passes_at holds_constant fields.now place }
 {
-    fields.iter().position(|f| is_constant(f, name))
+    match item_at(fields, place as usize) {
+        Some(field) => is_constant(field),
+        None => false,
+    }
+}
+
+fn constant_among(fields: &[FieldDesc], places: &[u32]) -> Option<usize>
+    ensures { result ≡ position (passes_at holds_constant fields.now) places.now }
+{
+    places
+        .iter()
+        .position(|place| is_constant_at(fields, *place))
+}
+
+/// The first of some places whose field is final and has a constant.
+fn constant_place(fields: &[FieldDesc], places: &[u32]) -> Option<usize>
+    ensures { result ≡ find (passes_at holds_constant fields.now) places.now }
+{
+    place_of(places, constant_among(fields, places))
 }
 
 /// The first final field of the name that a class declares with a constant.
-pub fn constant_at(classes: &[ClassDesc], class: u32, name: &Text) -> Option<Met>
-    requires { HaveFewMembers classes.now }
+pub fn constant_at(
+    classes: &[ClassDesc],
+    index: &MemberIndex,
+    class: u32,
+    name: &Text,
+) -> Option<Met>
+    requires few { HaveFewMembers classes.now }
+    requires indexed { IsIndexOf index.now classes.now }
     ensures met { Meets (views classes.now) fields_of result
         (declared_at (views classes.now) (constant_in_class name.now) class) }
     ensures there { IfSome result (λ met. met.at.class < length classes.now) }
 {
-    match desc_at(classes, class) {
+    match item_at(classes, class as usize) {
         Some(desc) => {
-            let place = constant_place(desc.fields.items(), name);
+            let named = index.fields_named(classes, class, name);
+            let place = constant_place(desc.fields.items(), named);
             field_met(desc, class, place)
         }
         None => None,
@@ -165,28 +179,23 @@ pub fn constant_at(classes: &[ClassDesc], class: u32, name: &Text) -> Option<Met
 
 // ---- names
 
-fn is_named(field: &FieldDesc, name: &Text) -> bool
-    ensures { result ≡ is_text field.now.name name.now }
-{
-    field.name == *name
-}
-
-fn named_place(fields: &[FieldDesc], name: &Text) -> Option<usize>
-    ensures { result ≡ position (λ f. is_text f.name name.now) fields.now }
-{
-    fields.iter().position(|f| is_named(f, name))
-}
-
 /// The first field of the name that a class declares.
-pub fn field_named_at(classes: &[ClassDesc], class: u32, name: &Text) -> Option<Met>
-    requires { HaveFewMembers classes.now }
+pub fn field_named_at(
+    classes: &[ClassDesc],
+    index: &MemberIndex,
+    class: u32,
+    name: &Text,
+) -> Option<Met>
+    requires few { HaveFewMembers classes.now }
+    requires indexed { IsIndexOf index.now classes.now }
     ensures met { Meets (views classes.now) fields_of result
         (declared_at (views classes.now) (field_named_in name.now) class) }
     ensures there { IfSome result (λ met. met.at.class < length classes.now) }
 {
-    match desc_at(classes, class) {
+    match item_at(classes, class as usize) {
         Some(desc) => {
-            let place = named_place(desc.fields.items(), name);
+            let named = index.fields_named(classes, class, name);
+            let place = place_at(named, 0);
             field_met(desc, class, place)
         }
         None => None,
@@ -194,20 +203,6 @@ pub fn field_named_at(classes: &[ClassDesc], class: u32, name: &Text) -> Option<
 }
 
 // ---- methods
-
-fn is_method(method: &MethodDesc, name: &Text, descriptor: &Text) -> bool
-    ensures { result ≡ (is_text method.now.name name.now
-        && is_text method.now.descriptor descriptor.now) }
-{
-    method.name == *name && method.descriptor == *descriptor
-}
-
-fn method_place(methods: &[MethodDesc], name: &Text, descriptor: &Text) -> Option<usize>
-    ensures { result ≡ position (λ m. is_text m.name name.now
-        && is_text m.descriptor descriptor.now) methods.now }
-{
-    methods.iter().position(|m| is_method(m, name, descriptor))
-}
 
 /// The method of a place, if there is one.
 fn method_met(desc: &ClassDesc, class: u32, place: Option<usize>) -> Option<Met>
@@ -225,27 +220,35 @@ fn method_met(desc: &ClassDesc, class: u32, place: Option<usize>) -> Option<Met>
     }
 }
 
-/// Whether a class declares a method of the name and descriptor.
-pub fn has_method(classes: &[ClassDesc], class: u32, name: &Text, descriptor: &Text) -> bool
-    ensures { result ≡ declares (views classes.now)
-        (method_in (named name.now descriptor.now)) class }
+/// Whether a class declares a method that is sought.
+pub fn has_method(
+    classes: &[ClassDesc],
+    index: &MemberIndex,
+    class: u32,
+    sought: &Sought<'_>,
+) -> bool
+    ensures { IsIndexOf index.now classes.now →
+        result ≡ declares (views classes.now) (method_in (meant sought.now)) class }
 {
-    match desc_at(classes, class) {
-        Some(desc) => method_place(desc.methods.items(), name, descriptor).is_some(),
-        None => false,
-    }
+    method_place(classes, index, class, sought).is_some()
 }
 
-/// The first method of the name and descriptor that a class declares.
-pub fn method_at(classes: &[ClassDesc], class: u32, name: &Text, descriptor: &Text) -> Option<Met>
-    requires { HaveFewMembers classes.now }
+/// The first method that is sought and that a class declares.
+pub fn method_at(
+    classes: &[ClassDesc],
+    index: &MemberIndex,
+    class: u32,
+    sought: &Sought<'_>,
+) -> Option<Met>
+    requires few { HaveFewMembers classes.now }
+    requires indexed { IsIndexOf index.now classes.now }
     ensures met { Meets (views classes.now) methods_of result
-        (declared_at (views classes.now) (method_in (named name.now descriptor.now)) class) }
+        (declared_at (views classes.now) (method_in (meant sought.now)) class) }
     ensures there { IfSome result (λ met. met.at.class < length classes.now) }
 {
-    match desc_at(classes, class) {
+    match item_at(classes, class as usize) {
         Some(desc) => {
-            let place = method_place(desc.methods.items(), name, descriptor);
+            let place = method_place(classes, index, class, sought);
             method_met(desc, class, place)
         }
         None => None,
@@ -254,62 +257,79 @@ pub fn method_at(classes: &[ClassDesc], class: u32, name: &Text, descriptor: &Te
 
 // ---- what interfaces give
 
-/// A method of the name and descriptor that an interface gives to those below it.
-fn is_given(candidate: &MethodDesc, name: &Text, descriptor: &Text) -> bool
-    ensures { result ≡ (is_text candidate.now.name name.now
-        && is_text candidate.now.descriptor descriptor.now
-        && not (has_flag_of 0x0002 candidate.now.flags)
-        && not (has_flag_of 0x0008 candidate.now.flags)) }
+/// Whether a method of an interface is given to those below it.
+fn is_given(candidate: &MethodDesc) -> bool
+    ensures { result ≡ is_inherited candidate.now }
 {
-    is_method(candidate, name, descriptor)
-        && !has_flag(PRIVATE, candidate.flags)
-        && !has_flag(STATIC, candidate.flags)
+    !has_flag(PRIVATE, candidate.flags) && !has_flag(STATIC, candidate.flags)
 }
 
-fn given_place(methods: &[MethodDesc], name: &Text, descriptor: &Text) -> Option<usize>
-    ensures { result ≡ position (λ m. is_text m.name name.now
-        && is_text m.descriptor descriptor.now && not (has_flag_of 0x0002 m.flags)
-        && not (has_flag_of 0x0008 m.flags)) methods.now }
+fn is_given_at(methods: &[MethodDesc], place: u32) -> bool
+    ensures { result ≡ passes_at is_inherited methods.now place }
 {
-    methods.iter().position(|m| is_given(m, name, descriptor))
+    match item_at(methods, place as usize) {
+        Some(candidate) => is_given(candidate),
+        None => false,
+    }
 }
 
-/// The place of the method that a class gives to those below it, if it is an interface.
-fn interface_place(desc: &ClassDesc, name: &Text, descriptor: &Text) -> Option<usize>
+fn given_among(methods: &[MethodDesc], places: &[u32]) -> Option<usize>
+    ensures { result ≡ position (passes_at is_inherited methods.now) places.now }
+{
+    places.iter().position(|place| is_given_at(methods, *place))
+}
+
+/// The first of some places whose method an interface gives to those below it.
+fn given_place(methods: &[MethodDesc], places: &[u32]) -> Option<usize>
+    ensures { result ≡ find (passes_at is_inherited methods.now) places.now }
+{
+    place_of(places, given_among(methods, places))
+}
+
+/// The first of some places whose method the class gives to those below it, if it is an interface.
+fn interface_place(desc: &ClassDesc, places: &[u32]) -> Option<usize>
     ensures { result ≡ (if has_flag_of 0x0200 desc.now.flags
-        then position (λ m. is_text m.name name.now
-        && is_text m.descriptor descriptor.now && not (has_flag_of 0x0002 m.flags)
-        && not (has_flag_of 0x0008 m.flags)) desc.now.methods else None) }
+        then find (passes_at is_inherited desc.now.methods) places.now else None) }
 {
     if has_flag(INTERFACE, desc.flags) {
-        given_place(desc.methods.items(), name, descriptor)
+        given_place(desc.methods.items(), places)
     } else {
         None
     }
 }
 
-/// Whether a class is an interface that gives a method of the name and descriptor.
-pub fn has_given(classes: &[ClassDesc], class: u32, name: &Text, descriptor: &Text) -> bool
-    ensures { result ≡ declares (views classes.now)
-        (interface_method_in (named name.now descriptor.now)) class }
+/// Whether a class is an interface that gives a method that is sought.
+pub fn has_given(
+    classes: &[ClassDesc],
+    index: &MemberIndex,
+    class: u32,
+    sought: &Sought<'_>,
+) -> bool
+    ensures { IsIndexOf index.now classes.now → result ≡ declares (views classes.now)
+        (interface_method_in (meant sought.now)) class }
 {
-    match desc_at(classes, class) {
-        Some(desc) => interface_place(desc, name, descriptor).is_some(),
+    match item_at(classes, class as usize) {
+        Some(desc) => interface_place(desc, method_places(classes, index, class, sought)).is_some(),
         None => false,
     }
 }
 
-/// The first method of the name and descriptor that an interface gives.
-pub fn given_at(classes: &[ClassDesc], class: u32, name: &Text, descriptor: &Text) -> Option<Met>
-    requires { HaveFewMembers classes.now }
+/// The first method that is sought and that an interface gives.
+pub fn given_at(
+    classes: &[ClassDesc],
+    index: &MemberIndex,
+    class: u32,
+    sought: &Sought<'_>,
+) -> Option<Met>
+    requires few { HaveFewMembers classes.now }
+    requires indexed { IsIndexOf index.now classes.now }
     ensures met { Meets (views classes.now) methods_of result
-        (declared_at (views classes.now)
-        (interface_method_in (named name.now descriptor.now)) class) }
+        (declared_at (views classes.now) (interface_method_in (meant sought.now)) class) }
     ensures there { IfSome result (λ met. met.at.class < length classes.now) }
 {
-    match desc_at(classes, class) {
+    match item_at(classes, class as usize) {
         Some(desc) => {
-            let place = interface_place(desc, name, descriptor);
+            let place = interface_place(desc, method_places(classes, index, class, sought));
             method_met(desc, class, place)
         }
         None => None,
@@ -317,11 +337,17 @@ pub fn given_at(classes: &[ClassDesc], class: u32, name: &Text, descriptor: &Tex
 }
 
 /// Whether the method that an interface gives is not abstract.
-pub fn is_concrete(classes: &[ClassDesc], class: u32, name: &Text, descriptor: &Text) -> bool
-    requires { HaveFewMembers classes.now }
-    ensures { result ≡ is_concrete_of (views classes.now) (named name.now descriptor.now) class }
+pub fn is_concrete(
+    classes: &[ClassDesc],
+    index: &MemberIndex,
+    class: u32,
+    sought: &Sought<'_>,
+) -> bool
+    requires few { HaveFewMembers classes.now }
+    requires indexed { IsIndexOf index.now classes.now }
+    ensures { result ≡ is_concrete_of (views classes.now) (meant sought.now) class }
 {
-    match given_at(classes, class, name, descriptor) {
+    match given_at(classes, index, class, sought) {
         Some(met) => !has_flag(ABSTRACT, met.flags),
         None => false,
     }
@@ -329,42 +355,54 @@ pub fn is_concrete(classes: &[ClassDesc], class: u32, name: &Text, descriptor: &
 
 // ---- what interfaces have of java/lang/Object
 
-/// A public method of the name and descriptor that isn't static (JVMS 5.4.3.4).
-fn is_shared(method: &MethodDesc, name: &Text, descriptor: &Text) -> bool
-    ensures { result ≡ (is_text method.now.name name.now
-        && is_text method.now.descriptor descriptor.now
-        && has_flag_of 0x0001 method.now.flags
-        && not (has_flag_of 0x0008 method.now.flags)) }
+/// Whether interfaces have a method of java/lang/Object (JVMS 5.4.3.4).
+fn is_shared(method: &MethodDesc) -> bool
+    ensures { result ≡ is_shared_method method.now }
 {
-    is_method(method, name, descriptor)
-        && has_flag(PUBLIC, method.flags)
-        && !has_flag(STATIC, method.flags)
+    has_flag(PUBLIC, method.flags) && !has_flag(STATIC, method.flags)
 }
 
-fn shared_place(methods: &[MethodDesc], name: &Text, descriptor: &Text) -> Option<usize>
-    ensures { result ≡ position (λ m. is_text m.name name.now
-        && is_text m.descriptor descriptor.now && has_flag_of 0x0001 m.flags
-        && not (has_flag_of 0x0008 m.flags)) methods.now }
+fn is_shared_at(methods: &[MethodDesc], place: u32) -> bool
+    ensures { result ≡ passes_at is_shared_method methods.now place }
 {
-    methods.iter().position(|m| is_shared(m, name, descriptor))
+    match item_at(methods, place as usize) {
+        Some(method) => is_shared(method),
+        None => false,
+    }
 }
 
-/// The first method of the name and descriptor that interfaces have of a class.
+fn shared_among(methods: &[MethodDesc], places: &[u32]) -> Option<usize>
+    ensures { result ≡ position (passes_at is_shared_method methods.now) places.now }
+{
+    places
+        .iter()
+        .position(|place| is_shared_at(methods, *place))
+}
+
+/// The first of some places whose method interfaces have of java/lang/Object.
+fn shared_place(methods: &[MethodDesc], places: &[u32]) -> Option<usize>
+    ensures { result ≡ find (passes_at is_shared_method methods.now) places.now }
+{
+    place_of(places, shared_among(methods, places))
+}
+
+/// The first method that is sought and that interfaces have of a class.
 pub fn object_method_at(
     classes: &[ClassDesc],
+    index: &MemberIndex,
     class: u32,
-    name: &Text,
-    descriptor: &Text,
+    sought: &Sought<'_>,
 ) -> Option<Met>
-    requires { HaveFewMembers classes.now }
+    requires few { HaveFewMembers classes.now }
+    requires indexed { IsIndexOf index.now classes.now }
     ensures met { Meets (views classes.now) methods_of result
-        (declared_at (views classes.now)
-        (object_method_in (named name.now descriptor.now)) class) }
+        (declared_at (views classes.now) (object_method_in (meant sought.now)) class) }
     ensures there { IfSome result (λ met. met.at.class < length classes.now) }
 {
-    match desc_at(classes, class) {
+    match item_at(classes, class as usize) {
         Some(desc) => {
-            let place = shared_place(desc.methods.items(), name, descriptor);
+            let places = method_places(classes, index, class, sought);
+            let place = shared_place(desc.methods.items(), places);
             method_met(desc, class, place)
         }
         None => None,
@@ -374,18 +412,18 @@ pub fn object_method_at(
 /// The same of a class that may not be there.
 pub fn object_method_of(
     classes: &[ClassDesc],
+    index: &MemberIndex,
     object: Option<u32>,
-    name: &Text,
-    descriptor: &Text,
+    sought: &Sought<'_>,
 ) -> Option<Met>
-    requires { HaveFewMembers classes.now }
+    requires few { HaveFewMembers classes.now }
+    requires indexed { IsIndexOf index.now classes.now }
     ensures met { Meets (views classes.now) methods_of result (option_and_then
-        (declared_at (views classes.now) (object_method_in (named name.now descriptor.now)))
-        object) }
+        (declared_at (views classes.now) (object_method_in (meant sought.now))) object) }
     ensures there { IfSome result (λ met. met.at.class < length classes.now) }
 {
     match object {
-        Some(class) => object_method_at(classes, class, name, descriptor),
+        Some(class) => object_method_at(classes, index, class, sought),
         None => None,
     }
 }

@@ -5,6 +5,13 @@ ghost use Rattle.class_views.specs.Access.{is_in_package as lies_in_package};
 
 use hdr_core::Text;
 
+/// Whether a class of a name lies in a package.
+pub fn is_in_package(package: &Text, name: &Text) -> bool
+    ensures { result ≡ lies_in_package «package».now name.now }
+{
+    package_of(name.bytes()) == package.bytes()
+}
+
 /// What stands before the last `/` of a binary name.
 fn package_of(name: &[u8]) -> &[u8]
     ensures { result.now ≡ package_of_name name.now }
@@ -17,11 +24,4 @@ fn package_of(name: &[u8]) -> &[u8]
         end -= 1;
     }
     &[]
-}
-
-/// Whether a class of the name lies in a package.
-pub fn is_in_package(outer: &Text, class: &Text) -> bool
-    ensures { result ≡ lies_in_package outer.now class.now }
-{
-    package_of(class.bytes()) == outer.bytes()
 }

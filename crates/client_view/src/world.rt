@@ -3,6 +3,7 @@ ghost use Rattle.std.specs.Prelude.{slice_get, slice_index_or, option_and_then, 
 ghost use Rattle.class_views.specs.View.{View};
 ghost use Rattle.class_views.specs.World.{ring_of};
 ghost use Rattle.class_views.specs.Access.{is_accessible_class};
+ghost use Rattle.class_views.specs.Access.{is_in_package as lies_in_package};
 ghost use Rattle.class_views.specs.Query.{ask, ClassQuery, SupersQuery};
 ghost use Rattle.client_view.specs.Indexed.{HaveFewMembers};
 ghost use Rattle.client_view.specs.Numbers.{views, number_of, AreApart, IsFirstRepeat};
@@ -25,9 +26,10 @@ use crate::refused::ViewErr;
 use crate::reply::Reply;
 use class_desc::ClassDesc;
 use hdr_core::Text;
+use member_index::MemberIndex;
 use reachability::Rows;
 use std::alloc::Global;
-use std::collections::HashMap;
+use std::collections::BTreeMap;
 use std::marker::Model;
 use supertypes::{Search, least_rings};
 
@@ -35,12 +37,14 @@ use supertypes::{Search, least_rings};
 #[derive(Drop)]
 pub struct ClientWorld {
     classes: Vec<ClassDesc>,
-    numbers: HashMap<Text, u32>,
+    numbers: BTreeMap<Text, u32>,
     /// The supertypes of each class, in the order of a walk (JVMS 5.4.3.2).
     supertypes: Rows,
     superclasses: Rows,
     /// For each class the least one that it reaches, or is, and that reaches itself.
     rings: Vec<Option<u32>>,
+    /// Where the members of each class stand.
+    members: MemberIndex,
     search: Search,
     /// The number of java/lang/Object.
     object: Option<u32>,
@@ -78,6 +82,7 @@ impl ClientWorld {
         let supertypes = supertype_rows(alloc, &numbers, &classes)?;
         let superclasses = superclass_rows(alloc, &numbers, &classes)?;
         let rings = least_rings(alloc, &supertypes)?;
+        let members = MemberIndex::of(alloc, &classes)?;
         let search = Search::new(alloc, classes.len())?;
         let object = object_number(alloc, &numbers)?;
         let candidates = Vec::with_capacity(alloc, classes.len())?;
@@ -87,6 +92,7 @@ impl ClientWorld {
             supertypes,
             superclasses,
             rings,
+            members,
             search,
             object,
             candidates,
@@ -138,8 +144,16 @@ impl ClientWorld {
         ensures { (c : View) → slice_get (views self.now) class ≡ Some c →
             result ≡ is_accessible_class (client_seen client.now) c }
     {
-        let class = &self.classes[class as usize];
-        has_flag(PUBLIC, class.flags) || is_in_package(&client.package, &class.name)
+        has_flag(PUBLIC, self.classes[class as usize].flags) || self.is_in_package(client, class)
+    }
+
+    /// Whether a class lies in the client's package.
+    fn is_in_package(&self, client: &Client, class: u32) -> bool
+        requires { class < length self.now }
+        ensures { (c : View) → slice_get (views self.now) class ≡ Some c →
+            result ≡ lies_in_package client.now.package c.name }
+    {
+        is_in_package(&client.package, &self.classes[class as usize].name)
     }
 
     /// The least class that a class reaches, or is, and that reaches itself.

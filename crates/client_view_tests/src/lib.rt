@@ -1,14 +1,6 @@
-//! Examples of what clients find: the tests of client_view, in a crate of their own, so that its
-//! proofs are checked once.
+//! Questions about classes of as many members as there can be. Other examples of what clients find
+//! are rows of class_rows.
 #![tactic(auto)]
 
 #[cfg(test)]
-mod asking;
-#[cfg(test)]
-mod building;
-#[cfg(test)]
-mod constants;
-#[cfg(test)]
-mod fields;
-#[cfg(test)]
-mod methods;
+mod wide;

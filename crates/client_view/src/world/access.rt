@@ -15,7 +15,6 @@ ghost use Rattle.client_view.specs.declared.reply.Reply.TheVariants as replies;
 use crate::asked::Client;
 use crate::flags::{PRIVATE, PROTECTED, PUBLIC, has_flag};
 use crate::members::Met;
-use crate::package::is_in_package;
 use crate::reply::{MemberAt, Reply};
 use crate::world::ClientWorld;
 use hdr_core::Text;
@@ -99,7 +98,7 @@ impl ClientWorld {
         if has_flag(PUBLIC, flags) {
             return true;
         }
-        if is_in_package(&client.package, &self.classes[class as usize].name) {
+        if self.is_in_package(client, class) {
             return true;
         }
         has_flag(PROTECTED, flags) && self.is_above_client(client, class)

@@ -12,6 +12,7 @@ ghost use Rattle.client_view.specs.Replies.{IsAnnotationsFound};
 use crate::asked::{Client, Part};
 use crate::members::{Met, field_named_at, method_at};
 use crate::reply::Reply;
+use crate::sought::Sought;
 use crate::world::ClientWorld;
 use hdr_core::Text;
 
@@ -81,7 +82,7 @@ impl ClientWorld {
             (declared_at (views self.now) (field_named_in name.now) class) }
         ensures there { IfSome result (λ met. met.at.class < length self.now) }
     {
-        field_named_at(&self.classes, class, name)
+        field_named_at(&self.classes, &self.members, class, name)
     }
 
     fn own_method(&self, class: u32, name: &Text, descriptor: &Text) -> Option<Met>
@@ -89,6 +90,7 @@ impl ClientWorld {
             (declared_at (views self.now) (method_in (named name.now descriptor.now)) class) }
         ensures there { IfSome result (λ met. met.at.class < length self.now) }
     {
-        method_at(&self.classes, class, name, descriptor)
+        let sought = Sought::of(name, descriptor);
+        method_at(&self.classes, &self.members, class, &sought)
     }
 }

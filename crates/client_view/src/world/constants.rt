@@ -34,6 +34,6 @@ impl ClientWorld {
             (declared_at (views self.now) (constant_in_class name.now) class) }
         ensures there { IfSome result (λ met. met.at.class < length self.now) }
     {
-        constant_at(&self.classes, class, name)
+        constant_at(&self.classes, &self.members, class, name)
     }
 }

@@ -1,5 +1,6 @@
 //! Fields (JVMS 5.4.3.2).
 ghost use Rattle.std.specs.Prelude.{◌≡◌, ◌<◌, ℕ, Some, length, slice_get, [], IfSome};
+ghost use Rattle.member_index.specs.Index.{IsIndexOf};
 ghost use Rattle.class_views.specs.View.{View};
 ghost use Rattle.class_views.specs.World.{supertypes as supertypes_of};
 ghost use Rattle.class_views.specs.Query.{ask, FieldQuery};
@@ -9,13 +10,16 @@ ghost use Rattle.client_view.specs.Members.{Meets, named};
 ghost use Rattle.client_view.specs.Numbers.{views, AreApart, IsGraphOf};
 ghost use Rattle.client_view.specs.Refusals.{IsFree};
 ghost use Rattle.client_view.specs.Replies.{client_seen, fields_of, Says, IsMemberFound};
+ghost use Rattle.client_view.specs.Sought.{meant};
 
 use crate::asked::Client;
 use crate::members::{Met, field_at, has_field};
 use crate::reply::{MemberAt, Reply};
+use crate::sought::Sought;
 use crate::world::ClientWorld;
 use class_desc::ClassDesc;
 use hdr_core::Text;
+use member_index::MemberIndex;
 use reachability::Rows;
 use supertypes::Search;
 
@@ -24,27 +28,28 @@ fn field_in_walk(
     search: &mut Search,
     graph: &Rows,
     classes: &[ClassDesc],
+    index: &MemberIndex,
     start: u32,
-    name: &Text,
-    descriptor: &Text,
+    sought: &Sought<'_>,
 ) -> Option<Met>
     requires room { search.old ≡ record { classes = length classes.now; list = [] } }
     requires few { HaveFewMembers classes.now }
+    requires indexed { IsIndexOf index.now classes.now }
     requires apart { AreApart (views classes.now) }
     requires graph { IsGraphOf (views classes.now) supertypes_of graph.now }
     requires free { IsFree (views classes.now) start }
     ensures met { (c : View) → slice_get (views classes.now) start ≡ Some c →
         Meets (views classes.now) fields_of result
-        (field_resolution (views classes.now) c.name (named name.now descriptor.now)) }
+        (field_resolution (views classes.now) c.name (meant sought.now)) }
     ensures there { IfSome result (λ met. met.at.class < length classes.now) }
     ensures kept { search.new ≡ search.old }
 {
     match search.first(
         graph,
         start,
-        |class| has_field(classes, class, name, descriptor),
+        |class| has_field(classes, index, class, sought),
     ) {
-        Some(class) => field_at(classes, class, name, descriptor),
+        Some(class) => field_at(classes, index, class, sought),
         None => None,
     }
 }
@@ -80,13 +85,14 @@ impl ClientWorld {
         ensures there { IfSome result (λ met. met.at.class < length self.old) }
         ensures kept { self.new ≡ self.old }
     {
+        let sought = Sought::of(name, descriptor);
         field_in_walk(
             &mut self.search,
             &self.supertypes,
             &self.classes,
+            &self.members,
             class,
-            name,
-            descriptor,
+            &sought,
         )
     }
 }

@@ -3,6 +3,7 @@ ghost use Rattle.std.specs.Prelude.{◌≡◌, ◌<◌, ℕ, Some, IfSome, lengt
 ghost use Rattle.std.specs.Prelude.{option_to_list};
 ghost use Rattle.std.specs.Option.{option_or};
 ghost use Rattle.class_desc.specs.ClassFile.{object_name};
+ghost use Rattle.member_index.specs.Index.{IsIndexOf};
 ghost use Rattle.class_views.specs.View.{View};
 ghost use Rattle.class_views.specs.World.{chain, class_of, is_interface as is_an_interface};
 ghost use Rattle.class_views.specs.Query.{ask, answer_in, MethodQuery, InterfaceMethodQuery};
@@ -14,15 +15,18 @@ ghost use Rattle.client_view.specs.Members.{Meets, named};
 ghost use Rattle.client_view.specs.Numbers.{views, AreApart, IsGraphOf};
 ghost use Rattle.client_view.specs.Refusals.{IsFree};
 ghost use Rattle.client_view.specs.Replies.{client_seen, methods_of, Says, IsMemberFound};
+ghost use Rattle.client_view.specs.Sought.{meant};
 
 use crate::asked::Client;
 use crate::flags::{INTERFACE, has_flag};
 use crate::members::{Met, has_method, method_at, object_method_of};
 use crate::reply::{MemberAt, Reply};
+use crate::sought::Sought;
 use crate::superinterfaces::from_superinterfaces;
 use crate::world::ClientWorld;
 use class_desc::ClassDesc;
 use hdr_core::Text;
+use member_index::MemberIndex;
 use reachability::Rows;
 use supertypes::Search;
 
@@ -31,18 +35,19 @@ fn method_in_chain(
     search: &mut Search,
     graph: &Rows,
     classes: &[ClassDesc],
+    index: &MemberIndex,
     start: u32,
-    name: &Text,
-    descriptor: &Text,
+    sought: &Sought<'_>,
 ) -> Option<Met>
     requires room { search.old ≡ record { classes = length classes.now; list = [] } }
     requires few { HaveFewMembers classes.now }
+    requires indexed { IsIndexOf index.now classes.now }
     requires apart { AreApart (views classes.now) }
     requires graph { IsGraphOf (views classes.now) superclasses_of graph.now }
     requires free { IsFree (views classes.now) start }
     ensures met { (c : View) → slice_get (views classes.now) start ≡ Some c →
         Meets (views classes.now) methods_of result
-        (first_declared (method_in (named name.now descriptor.now))
+        (first_declared (method_in (meant sought.now))
         (chain (views classes.now) c.name)) }
     ensures there { IfSome result (λ met. met.at.class < length classes.now) }
     ensures kept { search.new ≡ search.old }
@@ -50,9 +55,9 @@ fn method_in_chain(
     match search.first(
         graph,
         start,
-        |class| has_method(classes, class, name, descriptor),
+        |class| has_method(classes, index, class, sought),
     ) {
-        Some(class) => method_at(classes, class, name, descriptor),
+        Some(class) => method_at(classes, index, class, sought),
         None => None,
     }
 }
@@ -172,13 +177,14 @@ impl ClientWorld {
         ensures there { IfSome result (λ met. met.at.class < length self.old) }
         ensures kept { self.new ≡ self.old }
     {
+        let sought = Sought::of(name, descriptor);
         method_in_chain(
             &mut self.search,
             &self.superclasses,
             &self.classes,
+            &self.members,
             class,
-            name,
-            descriptor,
+            &sought,
         )
     }
 
@@ -210,7 +216,8 @@ impl ClientWorld {
             (option_to_list (class_of (views self.now) c.name))) }
         ensures there { IfSome result (λ met. met.at.class < length self.now) }
     {
-        method_at(&self.classes, class, name, descriptor)
+        let sought = Sought::of(name, descriptor);
+        method_at(&self.classes, &self.members, class, &sought)
     }
 
     fn inherited_interface_method(
@@ -240,7 +247,8 @@ impl ClientWorld {
             (option_to_list (class_of (views self.now) object_name))) }
         ensures there { IfSome result (λ met. met.at.class < length self.now) }
     {
-        object_method_of(&self.classes, self.object, name, descriptor)
+        let sought = Sought::of(name, descriptor);
+        object_method_of(&self.classes, &self.members, self.object, &sought)
     }
 
     fn superinterface_method(&mut self, class: u32, name: &Text, descriptor: &Text) -> Option<Met>
@@ -251,14 +259,15 @@ impl ClientWorld {
         ensures there { IfSome result (λ met. met.at.class < length self.old) }
         ensures kept { self.new ≡ self.old }
     {
+        let sought = Sought::of(name, descriptor);
         from_superinterfaces(
             &mut self.search,
             &self.supertypes,
             &self.classes,
+            &self.members,
             &mut self.candidates,
             class,
-            name,
-            descriptor,
+            &sought,
         )
     }
 }

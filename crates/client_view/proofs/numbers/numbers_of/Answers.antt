@@ -39,11 +39,11 @@ returns-in_err-note-clause-repeated c = λ first second e.
     let i : ℕ = c.loop-index.index in
     let d = c.index-classes-index.result in
     let few = c.loop-index-test.true in
-    let told = err_from_is_err_and c.from_residual-in_err-note.result
-    c.from_residual-in_err-note.ensures.1 in
+    let told = err_from_is_err_and c.from_residual.result
+    c.from_residual.ensures.1 in
     let parts = c.in_err-note.ensures.repeated first second
     (ap (λ (v : ViewErr). Err v) (sym told.2
-    ∙ err_same told.0 (Repeated first second) c.from_residual-in_err-note.result told.1 e)) in
+    ∙ err_same told.0 (Repeated first second) c.from_residual.result told.1 e)) in
     subst (λ (s : ℕ). IsFirstRepeat (views classes) first s) (sym parts.1)
     (first_repeat (views classes) i c.loop-index.invariant.apart (view_of_desc d)
     (view_at classes i d few c.index-classes-index.is) first

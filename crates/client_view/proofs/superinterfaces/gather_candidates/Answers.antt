@@ -4,17 +4,18 @@ use Rattle.std.proofs.lemmas.List.{length-take-le, length-map, take_all}
 use Rattle.supertypes.specs.Found.{Found}
 use Rattle.class_views.specs.Resolution.{interface_method_in}
 use Rattle.class_views.specs.View.{view_of_desc}
-use Rattle.client_view.specs.Members.{declares, named}
+use Rattle.client_view.specs.Members.{declares}
+use Rattle.client_view.specs.Sought.{meant}
 use Rattle.client_view.specs.Numbers.{views}
 use Rattle.client_view.proofs.Filtered.{in_filtered, filtered_in, filtered_short, filtered_more}
 use Rattle.client_view.proofs.Filtered.{above_one, one_above, declares_small}
 use Rattle.client_view.proofs.superinterfaces.gather_candidates.Goals as goal
 
-pub keep_given-requires : goal.keep_given-requires
-keep_given-requires c =
+pub keep_given-requires-clause-room : goal.keep_given-requires-clause-room
+keep_given-requires-clause-room c =
     let test : ℕ → Bool =
     declares (views c.args.classes.now)
-    (interface_method_in (named c.args.name.now c.args.descriptor.now)) in
+    (interface_method_in (meant c.args.sought.now)) in
     let i : ℕ = c.loop-class.class-index in
     let above = c.gathered-above.result.now in
     let few = c.loop-class-test.true in
@@ -33,7 +34,7 @@ pub loop-class-preserved : goal.loop-class-preserved
 loop-class-preserved c =
     let test : ℕ → Bool =
     declares (views c.args.classes.now)
-    (interface_method_in (named c.args.name.now c.args.descriptor.now)) in
+    (interface_method_in (meant c.args.sought.now)) in
     record {
       kept = filtered_more test c.gathered-above.result.now c.loop-class.class-index
           _ c.loop-class.candidates.items c.keep_given.new.candidates.items
@@ -46,7 +47,7 @@ pub returns-clause-each : goal.returns-clause-each
 returns-clause-each c = λ k.
     let test : ℕ → Bool =
     declares (views c.args.classes.now)
-    (interface_method_in (named c.args.name.now c.args.descriptor.now)) in
+    (interface_method_in (meant c.args.sought.now)) in
     let above = c.gathered-above.result.now in
     let over = c.loop-class-test.false in
     let kept : c.loop-class.candidates.items ≡ filter test above =
@@ -61,7 +62,7 @@ returns-clause-each c = λ k.
           (above_one graph c.args.start k found.1, parts.1),
       λ both.
           let small = declares_small (views c.args.classes.now)
-          (interface_method_in (named c.args.name.now c.args.descriptor.now)) k both.1 in
+          (interface_method_in (meant c.args.sought.now)) k both.1 in
           let long = length-map c.args.classes.now view_of_desc in
           let level = c.requires.level in
           subst (λ (l : List ℕ). Contains l k) (sym kept) (filtered_in test above k

@@ -1,7 +1,7 @@
 use Rattle.std.proofs.Common.{subst, ℕ, ◌<◌, List, length}
 use Rattle.std.specs.Prelude.{Contains, ◌↔◌}
 use Rattle.supertypes.specs.Ways.{IsAboveSome}
-use Rattle.client_view.specs.Members.{named}
+use Rattle.client_view.specs.Sought.{meant}
 use Rattle.client_view.specs.Numbers.{views}
 use Rattle.client_view.specs.Sole.{IsSole}
 use Rattle.client_view.proofs.Firsts.{free_graph}
@@ -12,7 +12,7 @@ pub returns-clause-chosen : goal.returns-clause-chosen
 returns-clause-chosen c = λ v at.
     let world = views c.args.classes.now in
     let graph = c.args.graph.now in
-    let sought = named c.args.name.now c.args.descriptor.now in
+    let sought = meant c.args.sought.now in
     let above : List ℕ = c.gather.new.self.list in
     let sole = c.sole_concrete-sole.result in
     chosen world c.requires.apart graph c.requires.graph c.args.start v at

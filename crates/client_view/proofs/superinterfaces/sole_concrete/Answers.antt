@@ -1,5 +1,5 @@
 use Rattle.std.proofs.Common.{subst, sym, ℕ, take, ◌+◌, Option}
-use Rattle.client_view.specs.Members.{named}
+use Rattle.client_view.specs.Sought.{meant}
 use Rattle.client_view.specs.Numbers.{views}
 use Rattle.client_view.specs.Sole.{IsSoleYet}
 use Rattle.client_view.proofs.Counted.{past_one, another_one, met_one}
@@ -9,7 +9,7 @@ use Rattle.client_view.proofs.superinterfaces.sole_concrete.Goals.{else-stands_o
 
 pub returns-then-is_another : goal.returns-then-is_another
 returns-then-is_another c =
-    another_one (views c.args.classes.now) (named c.args.name.now c.args.descriptor.now)
+    another_one (views c.args.classes.now) (meant c.args.sought.now)
     c.args.search.now.list c.args.candidates.now c.loop-class.class-index _ c.loop-class-test.true
     c.loop-class.sole c.loop-class.invariant (c.stands_out.ensures.lone c.if-stands_out.true)
     (c.stands_out.ensures.concrete c.if-stands_out.true)
@@ -18,7 +18,7 @@ returns-then-is_another c =
 pub loop-class-preserved : goal.loop-class-preserved
 loop-class-preserved c =
     let world = views c.args.classes.now in
-    let sought = named c.args.name.now c.args.descriptor.now in
+    let sought = meant c.args.sought.now in
     let above = c.args.search.now.list in
     let candidates = c.args.candidates.now in
     let i : ℕ = c.loop-class.class-index in

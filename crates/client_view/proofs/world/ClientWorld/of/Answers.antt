@@ -1,14 +1,16 @@
 use Rattle.std.proofs.Common.{◌≡◌, ◌∙◌, ap, sym, subst, List, ℕ, length, map, arith, []}
 use Rattle.std.specs.Prelude.{Err}
-use Rattle.std.specs.HashMap.{get}
+use Rattle.std.specs.BTreeMap.{get}
+use Rattle.std.specs.Cmp.Lexicographic.{slice_cmp}
+use Rattle.std.specs.Ordering.{nat_cmp}
 use Rattle.std.proofs.lemmas.List.{length-map}
 use Rattle.std.proofs.lemmas.Result.{err_from_is_err_and}
-use Rattle.java_names.specs.Names.{is_text}
 use Rattle.class_desc.specs.ClassFile.{object_name}
 use Rattle.class_desc.specs.declared.class.ClassDesc.{ClassDesc}
 use Rattle.class_views.specs.View.{view_of_desc}
 use Rattle.class_views.specs.World.{supertypes}
-use Rattle.client_view.specs.Indexed.{superclasses}
+use Rattle.member_index.specs.Index.{IsIndexOf}
+use Rattle.client_view.specs.Indexed.{HaveFewMembers, superclasses}
 use Rattle.client_view.specs.Numbers.{views, number_of, row_of, AreApart, IsFirstRepeat}
 use Rattle.client_view.specs.declared.refused.ViewErr.{ViewErr}
 use Rattle.client_view.specs.declared.refused.ViewErr.TheVariants.{Repeated}
@@ -28,9 +30,9 @@ returns-in_err-numbers-clause-repeated c = λ first second e.
 pub least_rings-requires : goal.least_rings-requires
 least_rings-requires c =
     let classes : List ClassDesc = c.args.classes.items in
-    let numbers : (name : List ℕ) → get is_text c.in_ok-numbers.numbers name
+    let numbers : (name : List ℕ) → get (slice_cmp nat_cmp) c.in_ok-numbers.numbers name
     ≡ number_of (views classes) name =
-    subst (λ (l : List ClassDesc). (name : List ℕ) → get is_text c.in_ok-numbers.numbers name
+    subst (λ (l : List ClassDesc). (name : List ℕ) → get (slice_cmp nat_cmp) c.in_ok-numbers.numbers name
     ≡ number_of (views l) name) c.deref.ensures.value c.in_ok-numbers.ensures.numbers in
     let rows = ap length (c.in_ok-supertypes.ensures (views classes) numbers) in
     let long = length-map c.deref-2.result.now
@@ -39,12 +41,16 @@ least_rings-requires c =
     let few = c.requires.few in
     omega (arith, rows, long, same, few)
 
+pub of-requires : goal.of-requires
+of-requires c =
+    subst HaveFewMembers (sym c.deref-4.ensures.value) c.requires.members
+
 pub invariant_of-result : goal.invariant_of-result
 invariant_of-result c =
     let classes : List ClassDesc = c.args.classes.items in
-    let numbers : (name : List ℕ) → get is_text c.in_ok-numbers.numbers name
+    let numbers : (name : List ℕ) → get (slice_cmp nat_cmp) c.in_ok-numbers.numbers name
     ≡ number_of (views classes) name =
-    subst (λ (l : List ClassDesc). (name : List ℕ) → get is_text c.in_ok-numbers.numbers name
+    subst (λ (l : List ClassDesc). (name : List ℕ) → get (slice_cmp nat_cmp) c.in_ok-numbers.numbers name
     ≡ number_of (views l) name) c.deref.ensures.value c.in_ok-numbers.ensures.numbers in
     record {
       few = c.requires.few;
@@ -64,6 +70,8 @@ invariant_of-result c =
         level = c.in_ok-rings.ensures.length;
         each = c.in_ok-rings.ensures.exact;
       };
+      members_are = subst (IsIndexOf c.in_ok-members.members) c.deref-4.ensures.value
+          c.in_ok-members.ensures;
       room = c.in_ok-search.ensures
           ∙ ap (λ (n : ℕ). record { classes = n; list = [] })
           (let counted = c.len.ensures in let lent = c.deref.ensures.len in

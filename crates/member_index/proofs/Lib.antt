@@ -1,0 +1,6 @@
+pub mod Firsts
+pub mod Keys
+pub mod Listed
+pub mod Ordered
+pub mod Placed
+pub mod Ranged
