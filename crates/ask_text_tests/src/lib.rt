@@ -7,8 +7,6 @@ mod answers;
 #[cfg(test)]
 mod building;
 #[cfg(test)]
-mod constants;
-#[cfg(test)]
 mod found;
 #[cfg(test)]
 mod worlds;

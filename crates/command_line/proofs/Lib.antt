@@ -1,4 +1,0 @@
-pub mod PathValues
-pub mod Places
-pub mod Trimmed
-pub mod Values

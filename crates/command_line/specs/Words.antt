@@ -1,9 +1,15 @@
 -- What the words of the command line ask for. The words are those behind the program's name.
-use Rattle.std.specs.Prelude.{ℕ, ◌+◌, ◌*◌, ◌-◌, ◌==◌, ◌&&◌, ◌||◌, nat_le, Bool, true, false, not}
-use Rattle.std.specs.Prelude.{List, [], ◌∷◌, ◌++◌, map, filter, find, codes, nat_eq, bytes_eq}
-use Rattle.std.specs.Prelude.{Option, Some, None, option_map, if◌then◌else◌}
-use Rattle.std.specs.List.{list_all, list_any, ends_with}
-use Rattle.command_line.specs.declared.job.TheConstants.{IJAR}
+use Rattle.std.specs.Prelude.{ℕ, ◌&&◌, ◌||◌, Bool, List, [], ◌∷◌, ◌++◌, find, codes, nat_eq}
+use Rattle.std.specs.Prelude.{Option, Some, None, option_map, option_and_then, if◌then◌else◌}
+use Rattle.std.specs.List.{list_all, ends_with}
+use Rattle.java_names.specs.Names.{is_text}
+use Rattle.option_words.specs.declared.workers.TheConstants.{WORKERS}
+use Rattle.option_words.specs.Lists.{only}
+use Rattle.option_words.specs.Options.{Given, options, values}
+use Rattle.option_words.specs.Paths.{path_of, paths_by}
+use Rattle.option_words.specs.Workers.{are_workers}
+use Rattle.questions.specs.Asking.{Ask, ask}
+use Rattle.command_line.specs.declared.job.TheConstants.{IJAR, INPUT, OUTPUT, ASK}
 
 -- why words are no job
 pub data Refusal : Type 0 where
@@ -16,6 +22,8 @@ pub data Refusal : Type 0 where
 pub data Command : Type 0 where
   -- strip the class files under these roots, in their order, into an output folder
   Ijar : List (List ℕ) → List ℕ → Command
+  -- answer questions about the class files under some roots
+  Asks : Ask → Command
 
 pub data Job : Type 0 where
   Refused : Refusal → Job
@@ -26,117 +34,49 @@ is_archive word =
     ends_with nat_eq word (codes ".jar") || ends_with nat_eq word (codes ".zip")
     || ends_with nat_eq word (codes ".jmod")
 
--- what may stand behind an option: not empty, and not beginning with '-'
-abbrev pub is_value : List ℕ → Bool
-is_value [] = false
-is_value (b ∷ bs) = not (b == 45)
+-- ---- ijar
 
--- an option and its value
-abbrev pub Given : Type 0
-Given = List ℕ × List ℕ
+abbrev pub is_ijar_option : List ℕ → Bool
+is_ijar_option option =
+    is_text option INPUT.now || is_text option OUTPUT.now || is_text option WORKERS.now
 
--- The options that words are: each option is one word, and its value is the next word.
-abbrev pub options : List (List ℕ) → Option (List Given)
-options [] = Some []
-options (name ∷ []) = None
-options (name ∷ (value ∷ words)) =
-    if is_value value then option_map (λ more. (name, value) ∷ more) (options words) else None
+-- no other option is given, and the number of workers as it may be
+abbrev pub are_right_options : List Given → Bool
+are_right_options given = list_all (λ o. is_ijar_option o.0) given && are_workers given
 
--- the values of the options of a name, in their order
-abbrev pub values : List ℕ → List Given → List (List ℕ)
-values name given = map (λ o. o.1) (filter (λ o. bytes_eq o.0 name) given)
+-- the output folder, which is given once
+abbrev pub output_by : List Given → Option (List ℕ)
+output_by given = option_and_then path_of (only (values OUTPUT.now given))
 
-abbrev pub is_named : List (List ℕ) → List ℕ → Bool
-is_named names name = list_any (λ n. bytes_eq n name) names
-
--- the values of each of these options, where no other is given
-abbrev pub values_of : List (List ℕ) → Option (List Given) → Option (List (List (List ℕ)))
-values_of names None = None
-values_of names (Some given) =
-    if list_all (λ o. is_named names o.0) given then Some (map (λ name. values name given) names)
-    else None
-
--- no name stands twice
-abbrev pub are_distinct : List (List ℕ) → Bool
-are_distinct [] = true
-are_distinct (name ∷ names) = not (is_named names name) && are_distinct names
-
--- a byte before a path that was trimmed: a '/' with nothing behind it goes
-abbrev pub before_trimmed : ℕ → List ℕ → List ℕ
-before_trimmed b [] = if b == 47 then [] else b ∷ []
-before_trimmed b (c ∷ cs) = b ∷ (c ∷ cs)
-
--- a path without the '/' at its end
-abbrev pub trimmed : List ℕ → List ℕ
-trimmed [] = []
-trimmed (b ∷ bs) = before_trimmed b (trimmed bs)
-
--- the path that a value gives: none where nothing stands before its '/'
-abbrev pub nonempty : List ℕ → Option (List ℕ)
-nonempty [] = None
-nonempty (b ∷ bs) = Some (b ∷ bs)
-
-abbrev pub path_of : List ℕ → Option (List ℕ)
-path_of value = nonempty (trimmed value)
-
--- a path before others, where there are these
-abbrev pub before_paths : Option (List ℕ) → Option (List (List ℕ)) → Option (List (List ℕ))
-before_paths None paths = None
-before_paths (Some path) paths = option_map (λ more. path ∷ more) paths
-
--- the paths that values give: none where one of the values gives none
-abbrev pub paths_of : List (List ℕ) → Option (List (List ℕ))
-paths_of [] = Some []
-paths_of (value ∷ values) = before_paths (path_of value) (paths_of values)
-
--- the digits, from '0' to '9'
-abbrev pub digit_zero : ℕ
-digit_zero = 48
-
-abbrev pub digit_nine : ℕ
-digit_nine = 57
-
-abbrev pub is_digit : ℕ → Bool
-is_digit b = nat_le digit_zero b && nat_le b digit_nine
-
-abbrev pub is_leading_digit : ℕ → Bool
-is_leading_digit b = is_digit b && not (b == digit_zero)
-
--- a number from 1 to 64 in decimal digits, without a zero in front
-abbrev pub is_worker_count : List ℕ → Bool
-is_worker_count [] = false
-is_worker_count (ones ∷ []) = is_leading_digit ones
-is_worker_count (tens ∷ (ones ∷ [])) =
-    is_leading_digit tens
-    && (is_digit ones && nat_le (10 * (tens - digit_zero) + (ones - digit_zero)) 64)
-is_worker_count (a ∷ (b ∷ (c ∷ word))) = false
-
--- The number of workers is given at most once. It is no part of the job.
-abbrev pub are_workers : List (List ℕ) → Bool
-are_workers [] = true
-are_workers (word ∷ []) = is_worker_count word
-are_workers (word ∷ (other ∷ words)) = false
-
--- one input at least
 abbrev pub stripping : Option (List (List ℕ)) → Option (List ℕ) → Option Command
 stripping None output = None
-stripping (Some []) output = None
-stripping (Some (input ∷ inputs)) None = None
-stripping (Some (input ∷ inputs)) (Some output) = Some (Ijar (input ∷ inputs) output)
+stripping (Some inputs) None = None
+stripping (Some inputs) (Some output) = Some (Ijar inputs output)
 
--- the values of the inputs, of the output, which is one, and of the number of workers
-abbrev pub ijar_of : Option (List (List (List ℕ))) → Option Command
-ijar_of (Some (inputs ∷ ((output ∷ []) ∷ (workers ∷ [])))) =
-    if are_workers workers then stripping (paths_of inputs) (path_of output) else None
-ijar_of given = None
+-- one root at least, and one output folder
+abbrev pub ijar_by : List Given → Option Command
+ijar_by given = stripping (paths_by INPUT.now given) (output_by given)
 
+abbrev pub ijar_of : List Given → Option Command
+ijar_of given = if are_right_options given then ijar_by given else None
+
+-- what the words behind `ijar` ask for
 abbrev pub ijar : List (List ℕ) → Option Command
-ijar words = ijar_of (values_of (map (λ name. name.now) IJAR) (options words))
+ijar words = option_and_then ijar_of (options words)
 
--- the first word is the command
+-- ---- all commands
+
+-- the command of a name, from the words behind it
+abbrev pub named : List ℕ → List (List ℕ) → Option Command
+named name words =
+    if is_text name IJAR.now then ijar words
+    else if is_text name ASK.now then option_map Asks (ask words)
+    else None
+
+-- the first word is the name of the command
 abbrev pub command : List (List ℕ) → Option Command
 command [] = None
-command (name ∷ words) = if bytes_eq name (codes "ijar") then ijar words else None
+command (name ∷ words) = named name words
 
 -- a word that names an archive comes before all else
 abbrev pub job_of : Option (List ℕ) → Option Command → Job

@@ -1,12 +1,15 @@
-ghost use Rattle.std.specs.Prelude.{◌≡◌, map, string_bytes, find, Some, IfOk};
-ghost use Rattle.command_line.specs.Words.{is_archive, ijar as ijar_words, ijar_of};
-ghost use Rattle.command_line.specs.Words.{command as command_of, job};
-ghost use Rattle.command_line.specs.Words.{paths_of, path_of, stripping as stripping_of};
-ghost use Rattle.command_line.specs.Seen.{job_seen, maybe_command_seen, text_seen, texts};
-ghost use Rattle.command_line.specs.Seen.{values_seen};
+ghost use Rattle.std.specs.Prelude.{◌≡◌, map, option_map, string_bytes, find, IfOk};
+ghost use Rattle.std.specs.List.{list_all};
+ghost use Rattle.option_words.specs.Seen.{all_given, text_seen};
+ghost use Rattle.questions.specs.Asking.{ask};
+ghost use Rattle.command_line.specs.Words.{Asks, is_archive, is_ijar_option as is_ijar_option_of};
+ghost use Rattle.command_line.specs.Words.{are_right_options, output_by, ijar_by};
+ghost use Rattle.command_line.specs.Words.{ijar as ijar_words, named, command as command_of, job};
+ghost use Rattle.command_line.specs.Seen.{job_seen, maybe_command_seen};
 
-use crate::options::{are_workers, option_values, path_value, path_values};
 use hdr_core::Memory;
+use option_words::{Given, WORKERS, are_workers, options_of, path_value, paths_given, values_of};
+use questions::{Ask, ask_of};
 use std::alloc::Global;
 
 /// Why words are no job.
@@ -19,17 +22,19 @@ pub enum Refusal<'a> {
 }
 
 /// What there is to do.
-#[derive(Drop, PartialEq, Eq)]
+#[derive(Drop)]
 pub enum Command<'a> {
     /// Strip the class files under these roots, in their order, into an output folder.
     Ijar {
         inputs: Vec<&'a str>,
         output: &'a str,
     },
+    /// Answer questions about the class files under some roots.
+    Ask(Ask<'a>),
 }
 
 /// What the words ask for.
-#[derive(Drop, PartialEq, Eq)]
+#[derive(Drop)]
 pub enum Job<'a> {
     /// Nothing: a line is told.
     Refused(Refusal<'a>),
@@ -54,65 +59,117 @@ fn first_archive(words: &[String]) -> Option<&str>
     None
 }
 
-/// The options of `ijar`, in the order in which their values are taken.
-pub(crate) const IJAR: [&str; 3] = ["--input", "--output", "--workers"];
+/// The word of the command that strips.
+pub const IJAR: &[u8] = b"ijar";
 
-/// One input at least, and one output.
-fn stripping<'a>(
-    alloc: Global,
-    inputs: &[&'a str],
-    output: &'a str,
-) -> Result<Option<Command<'a>>, Memory>
-    ensures { IfOk result (λ command. maybe_command_seen command
-        ≡ stripping_of (paths_of (texts inputs.now)) (path_of output.now)) }
+/// Its option of the roots.
+pub const INPUT: &[u8] = b"--input";
+
+/// Its option of the output folder.
+pub const OUTPUT: &[u8] = b"--output";
+
+fn is_ijar_option(option: &[u8]) -> bool
+    ensures { result ≡ is_ijar_option_of option.now }
 {
-    let Some(inputs) = path_values(alloc, inputs)? else {
-        return Ok(None);
-    };
-    if inputs.is_empty() {
-        return Ok(None);
+    option == INPUT || option == OUTPUT || option == WORKERS
+}
+
+fn are_ijar_options(given: &[Given<'_>]) -> bool
+    ensures { result ≡ list_all (λ o. is_ijar_option_of o.0) (all_given given.now) }
+{
+    for one in given {
+        if !is_ijar_option(one.option.as_bytes()) {
+            return false;
+        }
     }
-    Ok(match path_value(output) {
-        Some(output) => Some(Command::Ijar { inputs, output }),
-        None => None,
+    true
+}
+
+/// Whether no other option is given, and the number of workers as it may be.
+fn are_right(alloc: Global, given: &[Given<'_>]) -> Result<bool, Memory>
+    ensures { IfOk result (λ right. right ≡ are_right_options (all_given given.now)) }
+{
+    Ok(are_ijar_options(given) && are_workers(alloc, given)?)
+}
+
+/// The output folder, which is given once.
+fn output<'a>(alloc: Global, given: &[Given<'a>]) -> Result<Option<&'a str>, Memory>
+    ensures { IfOk result (λ path. text_seen path ≡ output_by (all_given given.now)) }
+{
+    let outputs = values_of(alloc, given, OUTPUT)?;
+    Ok(match outputs.as_slice() {
+        [output] => path_value(output),
+        _ => None,
     })
 }
 
-/// The job of the values of each option.
-fn ijar_job<'a>(alloc: Global, values: &[Vec<&'a str>]) -> Result<Option<Command<'a>>, Memory>
+/// What right options ask for: none where one is missing, is given too often, or is no path.
+fn stripping<'a>(alloc: Global, given: &[Given<'a>]) -> Result<Option<Command<'a>>, Memory>
     ensures { IfOk result (λ command.
-        maybe_command_seen command ≡ ijar_of (Some (values_seen values.now))) }
+        maybe_command_seen command ≡ ijar_by (all_given given.now)) }
 {
-    let [inputs, outputs, workers] = values else {
+    let Some(inputs) = paths_given(alloc, given, INPUT)? else {
         return Ok(None);
     };
-    let [output] = outputs.as_slice() else {
+    let Some(output) = output(alloc, given)? else {
         return Ok(None);
     };
-    if !are_workers(workers) {
-        return Ok(None);
-    }
-    stripping(alloc, inputs, output)
+    Ok(Some(Command::Ijar { inputs, output }))
 }
 
 fn ijar(alloc: Global, words: &[String]) -> Result<Option<Command<'_>>, Memory>
     ensures { IfOk result (λ command.
         maybe_command_seen command ≡ ijar_words (map string_bytes words.now)) }
 {
-    match option_values(alloc, &IJAR, words)? {
-        Some(values) => ijar_job(alloc, &values),
-        None => Ok(None),
+    let Some(given) = options_of(alloc, words)? else {
+        return Ok(None);
+    };
+    if are_right(alloc, &given)? {
+        stripping(alloc, &given)
+    } else {
+        Ok(None)
     }
 }
 
-/// The first word is the command.
+/// The word of the command that answers questions.
+pub const ASK: &[u8] = b"ask";
+
+fn asking(alloc: Global, words: &[String]) -> Result<Option<Command<'_>>, Memory>
+    ensures { IfOk result (λ command.
+        maybe_command_seen command ≡ option_map Asks (ask (map string_bytes words.now))) }
+{
+    Ok(match ask_of(alloc, words)? {
+        Some(ask) => Some(Command::Ask(ask)),
+        None => None,
+    })
+}
+
+/// The command of a name, from the words behind it.
+fn command_by_name<'a>(
+    alloc: Global,
+    name: &[u8],
+    words: &'a [String],
+) -> Result<Option<Command<'a>>, Memory>
+    ensures { IfOk result (λ command.
+        maybe_command_seen command ≡ named name.now (map string_bytes words.now)) }
+{
+    if name == IJAR {
+        ijar(alloc, words)
+    } else if name == ASK {
+        asking(alloc, words)
+    } else {
+        Ok(None)
+    }
+}
+
+/// The first word is the name of the command.
 fn named_command(alloc: Global, words: &[String]) -> Result<Option<Command<'_>>, Memory>
     ensures { IfOk result (λ command.
         maybe_command_seen command ≡ command_of (map string_bytes words.now)) }
 {
     match words {
-        [name, options @ ..] if name.as_bytes() == b"ijar".as_slice() => ijar(alloc, options),
-        _ => Ok(None),
+        [name, more @ ..] => command_by_name(alloc, name.as_bytes(), more),
+        [] => Ok(None),
     }
 }
 

@@ -2,6 +2,5 @@
 #![tactic(auto)]
 
 mod job;
-mod options;
 
 pub use job::{Command, Job, Refusal, job_of};

@@ -8,12 +8,12 @@ use Rattle.std.proofs.lemmas.List.{map-append}
 use Rattle.std.proofs.lemmas.List.Elements.{filter_map-append}
 use Rattle.questions.specs.declared.ask.AskedValue.{AskedValue}
 use Rattle.questions.specs.declared.kind.Kind.{Kind}
-use Rattle.questions.specs.declared.options.Given.{Given as ReadGiven}
+use Rattle.option_words.specs.declared.options.Given.{Given as ReadGiven}
 use Rattle.questions.specs.Asked.{all_asked}
 use Rattle.questions.specs.Asking.{asked_value}
 use Rattle.questions.specs.Kinds.{kind_of}
-use Rattle.questions.specs.Options.{Given}
-use Rattle.questions.specs.Seen.{given_seen, all_given}
+use Rattle.option_words.specs.Options.{Given}
+use Rattle.option_words.specs.Seen.{given_seen, all_given}
 
 -- a list of at most one
 abbrev listed : Option (Kind × List ℕ) → List (Kind × List ℕ)
@@ -35,7 +35,8 @@ module _ (given : List ReadGiven) (i : ℕ) (d : ReadGiven) (found : List AskedV
       ≡ filter_map asked_value (all_given (take (i + 1) given))
   more =
       let o = get_or given i d in
-      let cut : take (i + 1) given ≡ take i given ++ o ∷ [] = rw add-one (take-suc given i d below) in
+      let cut : take (i + 1) given ≡ take i given ++ o ∷ [] =
+      rw add-one (take-suc given i d below) in
       ap (λ t. t ++ listed (asked_value (given_seen o))) so_far
       ∙ ap (λ t. filter_map asked_value (all_given (take i given)) ++ t) (sym (one (given_seen o)))
       ∙ sym (filter_map-append asked_value (all_given (take i given)) (given_seen o ∷ []))

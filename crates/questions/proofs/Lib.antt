@@ -1,4 +1,1 @@
 pub mod Asked
-pub mod Each
-pub mod Trimmed
-pub mod Words

@@ -2,12 +2,12 @@
 use Rattle.std.specs.Prelude.{ℕ, List, map, Option, Some, None}
 use Rattle.std.specs.declared.vec.Vec.{Vec}
 use Rattle.std.specs.declared.alloc.Global.{Global}
+use Rattle.option_words.specs.Seen.{texts}
 use Rattle.questions.specs.declared.ask.Ask.{Ask as ReadAsk}
 use Rattle.questions.specs.declared.ask.AskedValue.{AskedValue}
 use Rattle.questions.specs.declared.kind.Kind.{Kind}
 use Rattle.questions.specs.declared.question.Question.{Question as ReadQuestion}
 use Rattle.questions.specs.Asking.{Question, Ask}
-use Rattle.questions.specs.Seen.{texts}
 
 abbrev pub all_asked : List AskedValue → List (Kind × List ℕ)
 all_asked = map (λ asked. (asked.kind, asked.value.now))

@@ -5,12 +5,15 @@ use Rattle.std.specs.List.{list_all, filter_map}
 use Rattle.std.specs.Option.{option_map_or}
 use Rattle.java_names.specs.Names.{is_text}
 use Rattle.java_names.specs.Paths.{name_of_path}
-use Rattle.questions.specs.declared.ask.TheConstants.{CLASSES, FROM, UNDER, WORKERS}
+use Rattle.option_words.specs.declared.workers.TheConstants.{WORKERS}
+use Rattle.option_words.specs.Lists.{nonempty, each, at_most_one}
+use Rattle.option_words.specs.Options.{Given, options, values}
+use Rattle.option_words.specs.Paths.{paths_by}
+use Rattle.option_words.specs.Workers.{are_workers}
+use Rattle.questions.specs.declared.ask.TheConstants.{CLASSES, FROM, UNDER}
 use Rattle.questions.specs.declared.kind.Kind.{Kind}
 use Rattle.questions.specs.declared.query.Query.{Query}
 use Rattle.questions.specs.Kinds.{kind_of}
-use Rattle.questions.specs.Options.{Given, options, values, nonempty, each, at_most_one}
-use Rattle.questions.specs.Options.{paths_of, are_workers}
 use Rattle.questions.specs.Values.{query_of}
 
 -- a question: what its option asks, its value as written, and what that stands for
@@ -74,7 +77,7 @@ asking (Some classes) (Some from) (Some under) (Some questions) = Some (record {
 abbrev pub asked_by : List Given → Option Ask
 asked_by given =
     asking
-    (option_and_then nonempty (paths_of (values CLASSES.now given)))
+    (paths_by CLASSES.now given)
     (at_most_one (values FROM.now given))
     (at_most_one (values UNDER.now given))
     (option_and_then nonempty (questions_of given))
@@ -82,7 +85,7 @@ asked_by given =
 -- no other option is given, and the number of workers as it may be
 abbrev pub are_right_options : List Given → Bool
 are_right_options given =
-    list_all (λ o. is_option o.0) given && are_workers (values WORKERS.now given)
+    list_all (λ o. is_option o.0) given && are_workers given
 
 abbrev pub ask_of : List Given → Option Ask
 ask_of given = if are_right_options given then asked_by given else None

@@ -3,7 +3,6 @@
 use Rattle.std.specs.Prelude.{ℕ, ◌==◌, nat_lt, List, length, Option, Some, None, option_map}
 use Rattle.std.specs.Prelude.{option_and_then, if◌then◌else◌}
 use Rattle.std.specs.List.{position_or_len, before_first, after_first}
-use Rattle.std.specs.Borrow.{Bor}
 use Rattle.questions.specs.declared.form.Form.{Form}
 use Rattle.questions.specs.declared.form.Form.TheVariants.{ClassName, FieldName, MethodName}
 use Rattle.questions.specs.declared.form.Form.TheVariants.{FieldDescriptor, MethodDescriptor}
@@ -23,10 +22,6 @@ split_first mark text =
     if nat_lt (position_or_len (λ b. b == mark) text) (length text)
     then Some (before_first (λ b. b == mark) text, after_first (λ b. b == mark) text)
     else None
-
-abbrev pub pair_seen : Option (Bor (List ℕ) × Bor (List ℕ)) → Option (List ℕ × List ℕ)
-pair_seen None = None
-pair_seen (Some parts) = Some (parts.0.now, parts.1.now)
 
 -- ---- a field by its name: N#x
 

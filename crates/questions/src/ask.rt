@@ -1,21 +1,21 @@
 //! All words behind `ask`.
-ghost use Rattle.std.specs.Prelude.{◌≡◌, ◌&&◌, [], map, string_bytes, IfOk, option_map};
+ghost use Rattle.std.specs.Prelude.{◌≡◌, [], map, string_bytes, IfOk, option_map};
 ghost use Rattle.std.specs.Prelude.{option_and_then};
 ghost use Rattle.std.specs.List.{filter_map, list_all};
 ghost use Rattle.std.specs.Option.{option_map_or};
 ghost use Rattle.java_names.specs.Paths.{name_of_path as name_of};
+ghost use Rattle.option_words.specs.Lists.{nonempty};
+ghost use Rattle.option_words.specs.Seen.{all_given, text_seen};
 ghost use Rattle.questions.specs.Asking.{ask, asked_by as asked_by_options, is_setting};
 ghost use Rattle.questions.specs.Asking.{is_option as is_option_of, asked_value, each_question};
 ghost use Rattle.questions.specs.Asking.{questions_of as questions_of_given, are_right_options};
 ghost use Rattle.questions.specs.Asked.{all_asked, maybe_questions_seen, maybe_ask_seen};
-ghost use Rattle.questions.specs.Options.{nonempty, at_most_one, paths_of, values};
-ghost use Rattle.questions.specs.Seen.{all_given, maybe_texts_seen, text_seen};
 
 use crate::kind::Kind;
-use crate::options::{Given, are_workers, options_of, path_values, values_of};
 use crate::question::Question;
 use hdr_core::{Memory, Text};
 use java_names::name_of_path;
+use option_words::{Given, WORKERS, are_workers, options_of, paths_given, sole_value};
 use std::alloc::Global;
 
 /// What the words behind `ask` ask for.
@@ -39,8 +39,6 @@ pub const FROM: &[u8] = b"--from";
 
 /// The option of the client's superclass.
 pub const UNDER: &[u8] = b"--under";
-
-pub const WORKERS: &[u8] = b"--workers";
 
 /// Whether an option asks nothing.
 fn is_setting_option(option: &[u8]) -> bool
@@ -125,35 +123,6 @@ fn questions_of<'a>(alloc: Global, given: &[Given<'a>]) -> Result<Option<Vec<Que
     })
 }
 
-/// The roots, one at least.
-fn roots<'a>(alloc: Global, given: &[Given<'a>]) -> Result<Option<Vec<&'a str>>, Memory>
-    ensures { IfOk result (λ roots. maybe_texts_seen roots
-        ≡ option_and_then nonempty (paths_of (values CLASSES.now (all_given given.now)))) }
-{
-    let values = values_of(alloc, given, CLASSES)?;
-    let Some(paths) = path_values(alloc, &values)? else {
-        return Ok(None);
-    };
-    Ok(if paths.is_empty() { None } else { Some(paths) })
-}
-
-/// The value of an option that is given at most once: none where it is given more often.
-fn sole_value<'a>(
-    alloc: Global,
-    given: &[Given<'a>],
-    option: &[u8],
-) -> Result<Option<Option<&'a str>>, Memory>
-    ensures { IfOk result (λ sole. option_map text_seen sole
-        ≡ at_most_one (values option.now (all_given given.now))) }
-{
-    let values = values_of(alloc, given, option)?;
-    Ok(match values.as_slice() {
-        [] => Some(None),
-        [value] => Some(Some(*value)),
-        _ => None,
-    })
-}
-
 /// The client's package: the unnamed one where none is given.
 fn package(alloc: Global, from: Option<&str>) -> Result<Text, Memory>
     ensures { IfOk result (λ name. name ≡ option_map_or name_of (text_seen from.entry) []) }
@@ -177,15 +146,14 @@ fn superclass(alloc: Global, under: Option<&str>) -> Result<Option<Text>, Memory
 fn are_right(alloc: Global, given: &[Given<'_>]) -> Result<bool, Memory>
     ensures { IfOk result (λ right. right ≡ are_right_options (all_given given.now)) }
 {
-    let workers = values_of(alloc, given, WORKERS)?;
-    Ok(are_options(given) && are_workers(&workers))
+    Ok(are_options(given) && are_workers(alloc, given)?)
 }
 
 /// What right options ask for: none where one is missing, is given too often, or hasn't its form.
 fn asked_by<'a>(alloc: Global, given: &[Given<'a>]) -> Result<Option<Ask<'a>>, Memory>
     ensures { IfOk result (λ ask. maybe_ask_seen ask ≡ asked_by_options (all_given given.now)) }
 {
-    let Some(classes) = roots(alloc, given)? else {
+    let Some(classes) = paths_given(alloc, given, CLASSES)? else {
         return Ok(None);
     };
     let Some(from) = sole_value(alloc, given, FROM)? else {

@@ -5,7 +5,6 @@
 mod ask;
 mod form;
 mod kind;
-mod options;
 mod query;
 mod question;
 

@@ -1,7 +1,8 @@
 //! What a question asks for, from its value.
 ghost use Rattle.std.specs.Prelude.{◌≡◌, ◌<◌, IfOk};
+ghost use Rattle.option_words.specs.Seen.{parts_seen};
 ghost use Rattle.questions.specs.Forms.{formed};
-ghost use Rattle.questions.specs.Values.{split_first as split_at, pair_seen, field_named};
+ghost use Rattle.questions.specs.Values.{split_first as split_at, field_named};
 ghost use Rattle.questions.specs.Values.{field_of, member_of, annotations_of, query_of};
 ghost use Rattle.questions.specs.Values.{of_class, of_field, of_method};
 ghost use Rattle.questions.specs.declared.form.Form.TheVariants.{ClassName, FieldName};
@@ -83,7 +84,7 @@ impl Query {
 /// What stands before the first of a mark, and behind it.
 fn split_first(text: &str, mark: char) -> Option<(&str, &str)>
     requires { mark < 128 }
-    ensures { pair_seen result ≡ split_at mark text.now }
+    ensures { parts_seen result ≡ split_at mark text.now }
 {
     text.split_once(mark)
 }

@@ -1,8 +1,8 @@
 use Rattle.std.proofs.Common.{◌≡◌, drop}
 use Rattle.std.specs.List.{list_all}
 use Rattle.questions.specs.Asking.{is_option}
-use Rattle.questions.specs.Options.{Given}
-use Rattle.questions.specs.Seen.{all_given}
+use Rattle.option_words.specs.Options.{Given}
+use Rattle.option_words.specs.Seen.{all_given}
 use Rattle.questions.proofs.ask.are_options.Given as goal
 
 abbrev pub invariant-loop-one : goal.invariant-loop-one

@@ -2,7 +2,7 @@ use Rattle.std.proofs.Common.{◌≡◌, take}
 use Rattle.std.specs.List.{filter_map}
 use Rattle.questions.specs.Asked.{all_asked}
 use Rattle.questions.specs.Asking.{asked_value}
-use Rattle.questions.specs.Seen.{all_given}
+use Rattle.option_words.specs.Seen.{all_given}
 use Rattle.questions.proofs.ask.asked_values.Given as goal
 
 abbrev pub invariant-loop-one : goal.invariant-loop-one

@@ -1,7 +1,7 @@
 use Rattle.std.proofs.Common.{◌≡◌, drop}
 use Rattle.questions.specs.Asked.{all_asked, questions_seen}
 use Rattle.questions.specs.Asking.{each_question}
-use Rattle.questions.proofs.Each.{with_front}
+use Rattle.option_words.proofs.Each.{with_front}
 use Rattle.questions.proofs.ask.questions_asked.Given as goal
 
 abbrev pub invariant-loop-one : goal.invariant-loop-one

@@ -1,0 +1,5 @@
+pub mod Lists
+pub mod Options
+pub mod Paths
+pub mod Seen
+pub mod Workers
