@@ -1,7 +1,13 @@
-//! Examples of words, of paths and of runs: the tests of command_line and commands, in a crate of
-//! their own, so that the proofs of those are checked once.
+//! Examples of paths and of runs: the tests of used_files and commands, in a crate of their own, so
+//! that the proofs of those are checked once.
 #![tactic(auto)]
 
+#[cfg(test)]
+mod ask_faults;
+#[cfg(test)]
+mod asks;
+#[cfg(test)]
+mod at_the_limits;
 #[cfg(test)]
 mod attributes;
 #[cfg(test)]
@@ -19,4 +25,4 @@ mod running;
 #[cfg(test)]
 mod runs;
 #[cfg(test)]
-mod words;
+mod shapes;

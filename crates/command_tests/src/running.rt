@@ -12,6 +12,7 @@ use std::thread::Threads;
 pub struct Ran {
     pub status: Status,
     pub outs: SureOuts,
+    pub out: SureSink,
     pub err: SureSink,
 }
 
@@ -31,7 +32,12 @@ pub fn run_sure<R: Threads + Sync>(
     let status = run(
         rt, alloc, words, &mut files, &mut outs, &mut out, &mut err, &NoGate,
     );
-    Ran { status, outs, err }
+    Ran {
+        status,
+        outs,
+        out,
+        err,
+    }
 }
 
 pub fn words_of(rt: &impl Abort, alloc: Global, row: &[&str]) -> Vec<String> {

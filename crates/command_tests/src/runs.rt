@@ -1,4 +1,5 @@
 //! Words and files, and what comes of them.
+use crate::building::append;
 use crate::running::{Ran, run_sure, words_of};
 use commands::Status;
 use hdr_core::HeldFile;
@@ -233,4 +234,47 @@ fn tells_files_that_are_too_long(rt: HostRuntime) {
         let ran = run_on(&rt, rt.alloc(), JOB, "in/A.class", &bytes);
         check_told(&rt, &ran, Status::Diagnosed, told);
     }
+}
+
+/// The class A, which names one class of 65,535 letters as often as that as a superinterface.
+fn naming(rt: &impl Abort, alloc: Global, times: u16) -> Vec<u8> {
+    let mut bytes = Vec::from_slice(alloc, &PLAIN[..8]).expect(rt, "memory");
+    let parts: [(&[u8], usize); 8] = [
+        (b"\0\x07", 1),
+        (&PLAIN[10..39], 1),
+        (b"\x01\xff\xff", 1),
+        (b"x", 65_535),
+        (b"\x07\0\x05\0\x21\0\x01\0\x03", 1),
+        (&times.to_be_bytes(), 1),
+        (b"\0\x06", usize::from(times)),
+        (b"\0", 6),
+    ];
+    for (part, count) in parts {
+        for _ in 0..count {
+            append(rt, &mut bytes, part);
+        }
+    }
+    bytes
+}
+
+/// As many namings of a long text as there is room for, and one more.
+#[test]
+fn tells_too_much_text(rt: HostRuntime) {
+    let ran = run_on(
+        &rt,
+        rt.alloc(),
+        JOB,
+        "in/A.class",
+        &naming(&rt, rt.alloc(), 1_024),
+    );
+    assert!(rt; ran.status == Status::Done);
+    let ran = run_on(
+        &rt,
+        rt.alloc(),
+        JOB,
+        "in/A.class",
+        &naming(&rt, rt.alloc(), 1_025),
+    );
+    let told = "in/A.class:67636: F13 too much text\n";
+    check_told(&rt, &ran, Status::Diagnosed, told);
 }

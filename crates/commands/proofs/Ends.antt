@@ -13,8 +13,9 @@ use Rattle.hdr_core.specs.contracts.diagnostics.DiagPartialEq.TheImpl.{ghosts}
 use Rattle.hdr_core.specs.contracts.diagnostics.DiagOrd.TheImpl.Laws as order
 use Rattle.file_contents.specs.declared.limits.Limits.{Limits}
 use Rattle.used_files.specs.Order.{in_order}
-use Rattle.commands.specs.Outcome.{ijar, made, diagnosed, unless_diagnosed, written}
-use Rattle.used_files.specs.Paths.{File, UsedFile}
+use Rattle.commands.specs.Outcome.{Outcome, made_of, diagnosed, unless_diagnosed}
+use Rattle.used_files.specs.Paths.{UsedFile}
+use Rattle.file_contents.specs.declared.items.Item.{Item}
 use Rattle.commands.specs.Phases.{first_phase}
 use Rattle.file_contents.specs.Contents.{items_of}
 use Rattle.used_files.specs.Stops.{IsFilled}
@@ -37,28 +38,29 @@ same x y e =
 exact_diag : (x y : Diag) → diag_order x y ≡ Equal → x ≡ y
 exact_diag x y e = same x y (order.matches_eq-law x y ∙ ap is_eq e)
 
-module _ (limits : Limits) (output : List ℕ) (files : List UsedFile) where
-  pub ends_made : (list : List File) → first_phase limits files ≡ []
-      → list ≡ written output (items_of files) → ijar limits output files ≡ made list
-  ends_made list none are =
-      ap (λ found. unless_diagnosed (in_order diag_order found) (written output (items_of files)))
-      none ∙ ap made (sym are)
+module _ (phases : List Item → List Diag) (make : List Item → Outcome) (limits : Limits)
+    (files : List UsedFile) where
+  pub ends_made : (o : Outcome) → first_phase limits phases files ≡ []
+      → o ≡ make (items_of files) → made_of phases make limits files ≡ o
+  ends_made o none are =
+      ap (λ found. unless_diagnosed (in_order diag_order found) (make (items_of files))) none
+      ∙ sym are
 
   pub ends_diagnosed : (found sorted : List Diag) → IsFilled found
-      → first_phase limits files ≡ found
+      → first_phase limits phases files ≡ found
       → ((other : List Diag) → Sorts diag_order found other → other ≡ sorted)
-      → ijar limits output files ≡ diagnosed sorted
+      → made_of phases make limits files ≡ diagnosed sorted
   ends_diagnosed [] sorted filled is sole = absurd filled
   ends_diagnosed (d ∷ ds) sorted filled is sole =
       let same_list : in_order diag_order (d ∷ ds)
       ≡ sorted = sole (in_order diag_order (d ∷ ds))
       (order_sorts diag_order order.total-law exact_diag (d ∷ ds)) in
-      ap (λ found. unless_diagnosed (in_order diag_order found) (written output (items_of files)))
+      ap (λ found. unless_diagnosed (in_order diag_order found) (make (items_of files)))
       is
-      ∙ ap (λ list. unless_diagnosed list (written output (items_of files))) same_list
+      ∙ ap (λ list. unless_diagnosed list (make (items_of files))) same_list
       ∙ told sorted same_list
     where
       told : (sorted : List Diag) → in_order diag_order (d ∷ ds) ≡ sorted
-          → unless_diagnosed sorted (written output (items_of files)) ≡ diagnosed sorted
+          → unless_diagnosed sorted (make (items_of files)) ≡ diagnosed sorted
       told [] e = absurd (not_empty diag_order d ds e)
       told (x ∷ xs) e = refl

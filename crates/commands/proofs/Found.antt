@@ -14,23 +14,27 @@ use Rattle.class_views.specs.Strip.{strip_class}
 use Rattle.class_views.proofs.OneOfAKind.{each_one_inner}
 use Rattle.class_views.proofs.Stripped.{stripped_valid}
 use Rattle.class_writer.proofs.Spelled.{layout_spells}
-use Rattle.command_line.specs.Words.{Command, Ijar}
+use Rattle.command_line.specs.Words.{Command, Ijar, Asks}
 use Rattle.projection.proofs.Written.{stripped_keeps}
 use Rattle.run_ends.specs.OutFiles.{file_order}
 use Rattle.run_ends.specs.declared.status.Status.TheVariants.{Done}
 use Rattle.used_files.specs.Order.{in_order}
+use Rattle.client_view.specs.Numbers.{views}
+use Rattle.used_files.specs.declared.kinds.FileKinds.TheVariants.{ClassesAndModules}
 use Rattle.used_files.specs.Paths.{File, UsedFile, tree}
 use Rattle.file_contents.specs.declared.items.Content.{Content}
 use Rattle.file_contents.specs.declared.items.Content.TheVariants.{Class, Module}
 use Rattle.file_contents.specs.declared.items.Item.{Item}
 use Rattle.file_contents.specs.declared.limits.TheConstants.{LIMITS}
 use Rattle.file_contents.specs.Contents.{items_of, class_in, classes}
+use Rattle.file_contents.specs.Phases.{twice}
 use Rattle.file_contents.specs.Valid.{AreValid}
 use Rattle.commands.specs.Found.{classes_read, classes_written, files_with, ShowsWhatWasRead}
 use Rattle.commands.specs.Found.{ShowsTheSame, ReadsValid}
 use Rattle.commands.specs.Outcome.{class_file, class_files, kept_file, module_files, written}
-use Rattle.commands.specs.Outcome.{unless_diagnosed, outcome_of}
-use Rattle.commands.specs.Phases.{diagnostics}
+use Rattle.commands.specs.Outcome.{made, told, unless_diagnosed, outcome_of}
+use Rattle.commands.specs.Answers.{answers, files_asked}
+use Rattle.commands.specs.Phases.{diagnostics, item_phases}
 
 -- ---- lists
 
@@ -106,13 +110,23 @@ module _ (output : List ℕ) (files : List UsedFile) (valid : AreValid (items_of
   }
 
   shows_unless : (list : List Diag) →
-      (unless_diagnosed list (written output (items_of files))).status ≡ Done →
+      (unless_diagnosed list (made (written output (items_of files)))).status ≡ Done →
       ShowsWhatWasRead output files
-      (unless_diagnosed list (written output (items_of files))).files
+      (unless_diagnosed list (made (written output (items_of files)))).files
   shows_unless [] done = shows
   shows_unless (d ∷ ds) done = absurd cc
+
+-- lines are no files
+none_unless : (list : List Diag) (lines : List (List ℕ))
+    → (unless_diagnosed list (told lines)).files ≡ []
+none_unless [] lines = refl
+none_unless (d ∷ ds) lines = refl
 
 pub shows_the_same : (c : Command) (held : List File) → ReadsValid c held →
     (outcome_of c held).status ≡ Done → ShowsTheSame c held
 shows_the_same (Ijar inputs output) held valid done =
-    shows_unless output (tree held inputs) valid (diagnostics LIMITS (tree held inputs)) done
+    shows_unless output (tree ClassesAndModules held inputs) valid
+    (diagnostics LIMITS item_phases (tree ClassesAndModules held inputs)) done
+shows_the_same (Asks asked) held valid done =
+    none_unless (diagnostics LIMITS twice (files_asked asked held))
+    (answers asked (views (classes (items_of (files_asked asked held)))))

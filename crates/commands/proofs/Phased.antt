@@ -1,5 +1,5 @@
 -- The first phase of a job that has a diagnostic.
-use Rattle.std.proofs.Common.{◌≡◌, ℕ, List, [], sym}
+use Rattle.std.proofs.Common.{◌≡◌, ℕ, List, [], sym, ap, ◌∙◌}
 use Rattle.std.specs.Prelude.{Result, Ok, Err, IfOk, IfErr}
 use Rattle.hdr_core.specs.declared.diagnostics.Diag.{Diag}
 use Rattle.used_files.specs.Paths.{UsedFile}
@@ -13,14 +13,17 @@ use Rattle.file_contents.specs.Phases.{twice, file_phases}
 use Rattle.file_contents.proofs.Reading.{or_first, or_later}
 use Rattle.commands.specs.Phases.{limit_phase, item_phases, first_phase}
 
-pub first_files : (limits : Limits) (files : List UsedFile) (list : List Diag) → IsFilled list
-    → file_phases limits files ≡ list → first_phase limits files ≡ list
-first_files limits files list filled e =
-    or_first (file_phases limits files) (item_phases (items_of files)) list (sym e) filled
+module _ (limits : Limits) (phases : List Item → List Diag) (files : List UsedFile) where
+  pub first_files : (list : List Diag) → IsFilled list → file_phases limits files ≡ list
+      → first_phase limits phases files ≡ list
+  first_files list filled e =
+      or_first (file_phases limits files) (phases (items_of files)) list (sym e) filled
 
-pub first_items : (limits : Limits) (files : List UsedFile) → file_phases limits files ≡ []
-    → first_phase limits files ≡ item_phases (items_of files)
-first_items limits files e = or_later (file_phases limits files) (item_phases (items_of files)) e
+  -- no file has one, so the first phase is that of the items
+  pub phase_of_items : (items : List Item) (list : List Diag) → file_phases limits files ≡ []
+      → items ≡ items_of files → phases items ≡ list → first_phase limits phases files ≡ list
+  phase_of_items items list fine are e =
+      or_later (file_phases limits files) (phases (items_of files)) fine ∙ ap phases (sym are) ∙ e
 
 -- ---- the phases of items
 

@@ -1,11 +1,14 @@
 -- What is true of a run, by the way in which it ended.
-use Rattle.std.proofs.Common.{◌≡◌, ℕ, ◌-◌, ◌^◌, ◌<◌, List, [], refl, sym, ap, subst, ◌∙◌, inl}
+use Rattle.std.proofs.Common.{◌≡◌, ℕ, ◌-◌, ◌^◌, ◌<◌, List, [], map, refl, sym, ap, subst, ◌∙◌, inl}
 use Rattle.std.proofs.Common.{inr, ⊎_elim, arith}
 use Rattle.std.specs.Prelude.{string_bytes, Err, IfSome}
+use Rattle.std.specs.declared.vec.Vec.{Vec}
+use Rattle.std.specs.declared.alloc.Global.{Global}
 use Rattle.hdr_core.specs.Causes.{Rose, grown, GrewByFront}
 use Rattle.hdr_core.specs.Diagnostics.{printed}
 use Rattle.hdr_core.specs.declared.diagnostics.Diag.{Diag}
-use Rattle.command_line.specs.Words.{Refusal, Command, Job, Refused, Doing, refusal_line}
+use Rattle.command_line.specs.Words.{Refusal, Command, Ijar, Asks, Job, Refused, Doing}
+use Rattle.command_line.specs.Words.{refusal_line}
 use Rattle.used_files.specs.Paths.{File}
 use Rattle.run_ends.specs.declared.status.Status.{Status}
 use Rattle.run_ends.specs.declared.status.Status.TheVariants.{Done, Diagnosed, Usage, ReadFault}
@@ -13,14 +16,19 @@ use Rattle.run_ends.specs.declared.status.Status.TheVariants.{WriteFault, Memory
 use Rattle.used_files.specs.declared.stop.Stop.{Stop}
 use Rattle.used_files.specs.declared.stop.Stop.TheVariants as stop
 use Rattle.commands.specs.Found.{ReadsValid}
-use Rattle.commands.specs.Outcome.{Outcome, outcome, outcome_of, made, diagnosed}
+use Rattle.commands.specs.Outcome.{Outcome, outcome, outcome_of, made, told, diagnosed}
+use Rattle.commands.specs.Made.{outcome_made, Makes, HandedOver}
+use Rattle.commands.specs.declared.made.Made.{Made}
+use Rattle.commands.specs.declared.made.Made.TheVariants.{Files, Lines}
 use Rattle.run_ends.specs.Outside.{Outside, OutsState, SinkState, CanRise}
 use Rattle.used_files.specs.Stops.{StopsOnly, FaultRises}
 use Rattle.commands.specs.JobPaths.{IsPathOf}
-use Rattle.run_ends.specs.Tells.{TellsLine, LineTold, StopTold, FilesPut, GrewByFiles, fault_line}
+use Rattle.run_ends.specs.OutFiles.{file_seen}
+use Rattle.run_ends.specs.declared.out_file.OutFile.{OutFile}
+use Rattle.run_ends.specs.Tells.{TellsLine, LineTold, StopTold, GrewByFiles, fault_line}
 use Rattle.run_ends.specs.Tells.{with_files}
 use Rattle.commands.specs.Runs.{Meets, MeetsFront, OfOutcome, FilesFailed, OthersFailed, Stood}
-use Rattle.commands.specs.Runs.{Runs}
+use Rattle.commands.specs.Runs.{LeavesAlone, Runs}
 use Rattle.used_files.proofs.Options.{if_some, from_some}
 use Rattle.commands.proofs.Found.{shows_the_same}
 use Rattle.run_ends.proofs.Told.{grown_nothing, grew_nothing, grew_whole}
@@ -65,6 +73,13 @@ front_of o s before after m = record {
   err = grew_whole before.err.told after.err.told o.err m.err;
 }
 
+-- where both are left alone, so is what a job leaves alone
+both_alone : (j : Job) (before after : Outside) → after.outs ≡ before.outs
+    → after.out ≡ before.out → LeavesAlone j before after
+both_alone (Refused refusal) before after outs out = (outs, out)
+both_alone (Doing (Ijar inputs output)) before after outs out = out
+both_alone (Doing (Asks asked)) before after outs out = outs
+
 -- nothing is done, since memory ran out
 pub undone : (j : Job) (o : Outside) → Runs j Memory o o
 undone j o = record {
@@ -73,6 +88,7 @@ undone j o = record {
         is = inr refl;
         files = refl;
         outs = refl;
+        out = refl;
         front = none;
         whole = λ e. absurd cc;
       };
@@ -86,9 +102,9 @@ undone j o = record {
   shows = λ e. absurd cc;
   complete = λ _ _. inr (inr refl);
   exact = λ _ _. if_some o.files.held _ (λ held _. inr refl);
-  unwritten = λ _. refl;
+  untouched = λ _. (refl, refl);
   silent = λ _. refl;
-  out = refl;
+  alone = both_alone j o o refl refl;
 }
   where
     none : (held : List File) → MeetsFront (outcome j held) o o
@@ -98,22 +114,32 @@ undone j o = record {
       err = grew_nothing o.err.told (outcome j held).err;
     }
 
-module _ (before after : Outside) (few : CanRise before) (out : after.out ≡ before.out) where
-  out_stood : after.out.faults ≡ before.out.faults
-  out_stood = ap (λ (x : SinkState). x.faults) out
+-- a command that makes files tells nothing on standard output
+files_alone : (before after : Outside) (c : Command) (list : Vec OutFile Global)
+    → Makes c (Files list) → after.out ≡ before.out → LeavesAlone (Doing c) before after
+files_alone before after (Ijar inputs output) list fits out = out
+files_alone before after (Asks asked) list fits out = absurd fits
 
+-- a command that makes lines writes no file
+lines_alone : (before after : Outside) (c : Command) (lines : Vec (List ℕ) Global)
+    → Makes c (Lines lines) → after.outs ≡ before.outs → LeavesAlone (Doing c) before after
+lines_alone before after (Ijar inputs output) lines fits outs = absurd fits
+lines_alone before after (Asks asked) lines fits outs = outs
+
+module _ (before after : Outside) (few : CanRise before) where
   -- no count of the others rose
   quiet : {P : Type 0} → after.outs.faults ≡ before.outs.faults
-      → after.err.faults ≡ before.err.faults → OthersFailed before after → P
-  quiet outs err failed =
+      → after.out.faults ≡ before.out.faults → after.err.faults ≡ before.err.faults
+      → OthersFailed before after → P
+  quiet outs out err failed =
       absurd
       (⊎_elim (level before.outs.faults after.outs.faults outs)
-      (⊎_elim (level before.out.faults after.out.faults out_stood)
+      (⊎_elim (level before.out.faults after.out.faults out)
       (level before.err.faults after.err.faults err)) failed)
 
   -- words that are no job
-  module _ (r : Refusal) (files : after.files ≡ before.files) (outs : after.outs
-      ≡ before.outs) where
+  module _ (r : Refusal) (files : after.files ≡ before.files)
+      (outs : after.outs ≡ before.outs) (out : after.out ≡ before.out) where
     abbrev line : List ℕ
     line = refusal_line r
 
@@ -135,6 +161,7 @@ module _ (before after : Outside) (few : CanRise before) (out : after.out ≡ be
         is = inl refl;
         files = files;
         outs = outs;
+        out = out;
         front = fronts_refused t.front;
         whole = λ _ quiet held. record {
           is = refl;
@@ -153,9 +180,9 @@ module _ (before after : Outside) (few : CanRise before) (out : after.out ≡ be
       shows = λ e. absurd cc;
       complete = λ e. absurd cc;
       exact = λ e. absurd cc;
-      unwritten = λ _. outs;
+      untouched = λ _. (outs, out);
       silent = λ e. absurd cc;
-      out = out;
+      alone = (outs, out);
     }
 
     refused_in_memory : GrewByFront before.err.told after.err.told line
@@ -166,6 +193,7 @@ module _ (before after : Outside) (few : CanRise before) (out : after.out ≡ be
             is = inr refl;
             files = files;
             outs = outs;
+            out = out;
             front = fronts_refused front;
             whole = λ e. absurd cc;
           };
@@ -179,16 +207,16 @@ module _ (before after : Outside) (few : CanRise before) (out : after.out ≡ be
       shows = λ e. absurd cc;
       complete = λ _ _. inr (inr refl);
       exact = λ _ _. if_some before.files.held _ (λ held _. inr refl);
-      unwritten = λ e. ⊎_elim (λ e. absurd cc) (λ e. ⊎_elim (λ e. absurd cc) (λ e. absurd cc) e) e;
+      untouched = λ e. ⊎_elim (λ e. absurd cc) (λ e. ⊎_elim (λ e. absurd cc) (λ e. absurd cc) e) e;
       silent = λ e. absurd cc;
-      out = out;
+      alone = (outs, out);
     }
 
     pub refused : (s : Status) → LineTold Usage line s before.err after.err
         → Runs (Refused r) s before after
     refused s t =
         ⊎_elim (λ u. as_run (Refused r) s Usage before after u.0 (in_usage u.1))
-        (λ m. as_run (Refused r) s Memory before after m.0 (refused_in_memory m.1)) t
+        (λ m. as_run (Refused r) s Memory before after m.0 (refused_in_memory m.2)) t
 
   -- a command
   module _ (c : Command) where
@@ -197,7 +225,8 @@ module _ (before after : Outside) (few : CanRise before) (out : after.out ≡ be
 
     -- a call on the files failed
     module _ (rose : Rose before.files.faults after.files.faults) (outs : after.outs ≡ before.outs)
-        (path : List ℕ) (named : IfSome before.files.held (λ held. IsPathOf held c path)) where
+        (out : after.out ≡ before.out) (path : List ℕ)
+        (named : IfSome before.files.held (λ held. IsPathOf held c path)) where
       failed : FilesFailed before after
       failed = above before.files.faults after.files.faults few.0 rose
 
@@ -210,6 +239,7 @@ module _ (before after : Outside) (few : CanRise before) (out : after.out ≡ be
             λ _. record {
               is = inl refl;
               outs = outs;
+              out = out;
               path = path;
               named = named;
               front = t.front;
@@ -225,9 +255,9 @@ module _ (before after : Outside) (few : CanRise before) (out : after.out ≡ be
         shows = λ e. absurd cc;
         complete = λ _ none. absurd (none.files failed);
         exact = λ _ none. absurd (none.files failed);
-        unwritten = λ _. outs;
+        untouched = λ _. (outs, out);
         silent = λ e. absurd cc;
-        out = out;
+        alone = both_alone (Doing c) before after outs out;
       }
 
       faulted_in_memory : GrewByFront before.err.told after.err.told (fault_line path)
@@ -239,6 +269,7 @@ module _ (before after : Outside) (few : CanRise before) (out : after.out ≡ be
             λ _. record {
               is = inr refl;
               outs = outs;
+              out = out;
               path = path;
               named = named;
               front = front;
@@ -252,13 +283,14 @@ module _ (before after : Outside) (few : CanRise before) (out : after.out ≡ be
         shows = λ e. absurd cc;
         complete = λ _ none. absurd (none.files failed);
         exact = λ _ none. absurd (none.files failed);
-        unwritten = λ _. outs;
+        untouched = λ _. (outs, out);
         silent = λ e. absurd cc;
-        out = out;
+        alone = both_alone (Doing c) before after outs out;
       }
 
     -- no call on the files failed
-    module _ (files : after.files.faults ≡ before.files.faults) where
+    module _ (files : after.files.faults ≡ before.files.faults)
+        (alone : LeavesAlone (Doing c) before after) where
       level_files : {P : Type 0} → FilesFailed before after → P
       level_files failed = absurd (level before.files.faults after.files.faults files failed)
 
@@ -275,10 +307,10 @@ module _ (before after : Outside) (few : CanRise before) (out : after.out ≡ be
         shows = λ e. absurd cc;
         complete = λ _ _. inr (inr refl);
         exact = λ _ _. if_some before.files.held _ (λ held _. inr refl);
-        unwritten =
+        untouched =
             λ e. ⊎_elim (λ e. absurd cc) (λ e. ⊎_elim (λ e. absurd cc) (λ e. absurd cc) e) e;
         silent = λ e. absurd cc;
-        out = out;
+        alone = alone;
       }
 
       in_write_fault : OthersFailed before after → Fronts → Runs (Doing c) WriteFault before after
@@ -294,17 +326,18 @@ module _ (before after : Outside) (few : CanRise before) (out : after.out ≡ be
         shows = λ e. absurd cc;
         complete = λ _ none. absurd (none.others others);
         exact = λ _ none. absurd (none.others others);
-        unwritten =
+        untouched =
             λ e. ⊎_elim (λ e. absurd cc) (λ e. ⊎_elim (λ e. absurd cc) (λ e. absurd cc) e) e;
         silent = λ e. absurd cc;
-        out = out;
+        alone = alone;
       }
 
       -- no other call failed
-      module _ (outs : after.outs.faults ≡ before.outs.faults) (err : after.err.faults
-          ≡ before.err.faults) where
+      module _ (outs : after.outs.faults ≡ before.outs.faults)
+          (out : after.out.faults ≡ before.out.faults)
+          (err : after.err.faults ≡ before.err.faults) where
         stood : Stood before after
-        stood = record { files = files; outs = outs; out = out_stood; err = err }
+        stood = record { files = files; outs = outs; out = out; err = err }
 
         in_done : OfOutcome (Doing c) before (λ o. Meets o Done before after)
             → IfSome before.files.held (ReadsValid c) → after.err ≡ before.err
@@ -314,7 +347,7 @@ module _ (before after : Outside) (few : CanRise before) (out : after.out ≡ be
           usage_only = λ e. absurd cc;
           files_first = λ failed. level_files failed;
           read_fault = λ e. absurd cc;
-          others_next = λ _ _ failed. quiet outs err failed;
+          others_next = λ _ _ failed. quiet outs out err failed;
           write_fault = λ e. absurd cc;
           fronts =
               λ _. if_some before.files.held _
@@ -333,20 +366,21 @@ module _ (before after : Outside) (few : CanRise before) (out : after.out ≡ be
               (λ held e. let m : Meets
               (outcome_of c held) Done before after = from_some before.files.held _ held met e in
               inl m.is);
-          unwritten =
+          untouched =
               λ e. ⊎_elim (λ e. absurd cc) (λ e. ⊎_elim (λ e. absurd cc) (λ e. absurd cc) e) e;
           silent = λ _. silent;
-          out = out;
+          alone = alone;
         }
 
         in_diagnosed : OfOutcome (Doing c) before (λ o. Meets o Diagnosed before after)
-            → after.outs ≡ before.outs → Runs (Doing c) Diagnosed before after
-        in_diagnosed met unwritten = record {
+            → (after.outs ≡ before.outs) × (after.out ≡ before.out)
+            → Runs (Doing c) Diagnosed before after
+        in_diagnosed met untouched = record {
           usage = λ h. absurd cc;
           usage_only = λ e. absurd cc;
           files_first = λ failed. level_files failed;
           read_fault = λ e. absurd cc;
-          others_next = λ _ _ failed. quiet outs err failed;
+          others_next = λ _ _ failed. quiet outs out err failed;
           write_fault = λ e. absurd cc;
           fronts =
               λ _. if_some before.files.held _
@@ -360,56 +394,99 @@ module _ (before after : Outside) (few : CanRise before) (out : after.out ≡ be
               (λ held e. let m : Meets
               (outcome_of c held) Diagnosed before after =
               from_some before.files.held _ held met e in inl m.is);
-          unwritten = λ _. unwritten;
+          untouched = λ _. untouched;
           silent = λ e. absurd cc;
-          out = out;
+          alone = alone;
         }
 
-    -- The files were made.
-    module _ (list : List File)
-        (are : IfSome before.files.held (λ held. outcome_of c held ≡ made list))
+    -- What the outcome has was made.
+    module _ (o : Outcome) (done : o.status ≡ Done) (mute : o.err ≡ [])
+        (are : IfSome before.files.held (λ held. outcome_of c held ≡ o))
         (valid : IfSome before.files.held (ReadsValid c))
-        (files : after.files.faults ≡ before.files.faults) (err : after.err ≡ before.err) where
+        (files : after.files.faults ≡ before.files.faults) (err : after.err ≡ before.err)
+        (alone : LeavesAlone (Doing c) before after) where
       abbrev Of : (Outcome → Type 0) → Type 0
       Of P = OfOutcome (Doing c) before P
 
-      of_made : (P : Outcome → Type 0) → P (made list) → Of P
+      of_made : (P : Outcome → Type 0) → P o → Of P
       of_made P p =
           if_some before.files.held _
           (λ held e. subst P
-          (sym (from_some before.files.held (λ held. outcome_of c held ≡ made list) held are e)) p)
+          (sym (from_some before.files.held (λ held. outcome_of c held ≡ o) held are e)) p)
 
-      fronts_put : GrewByFiles before.outs.written after.outs.written list → Fronts
-      fronts_put wrote =
+      err_faults : after.err.faults ≡ before.err.faults
+      err_faults = ap (λ (x : SinkState). x.faults) err
+
+      fronts_made : GrewByFiles before.outs.written after.outs.written o.files
+          → GrewByFront before.out.told after.out.told o.out → Fronts
+      fronts_made wrote told =
           of_made (λ o. MeetsFront o before after)
           (record {
             files = wrote;
-            out = same_front before.out after.out [] out;
-            err = same_front before.err after.err [] err;
+            out = told;
+            err = same_front before.err after.err o.err err;
           })
 
-      pub put : (s : Status) → FilesPut list s before.outs after.outs
-          → Runs (Doing c) s before after
-      put s p =
-          ⊎_elim
-          (λ d. as_run (Doing c) s Done before after d.0
-          (in_done files d.1 (ap (λ (x : SinkState). x.faults) err)
+      made_whole : after.outs.faults ≡ before.outs.faults → after.out.faults ≡ before.out.faults
+          → after.outs.written ≡ with_files before.outs.written o.files
+          → after.out.told ≡ grown before.out.told o.out → Runs (Doing c) Done before after
+      made_whole outs out wrote told =
+          in_done files alone outs out err_faults
           (of_made (λ o. Meets o Done before after)
           (record {
-            is = refl;
-            files = d.2;
-            out = same_told before.out after.out out;
-            err = same_told before.err after.err err;
-          })) valid err))
-          (λ p. ⊎_elim
-          (λ w. as_run (Doing c) s WriteFault before after w.0
-          (in_write_fault files (inl (above before.outs.faults after.outs.faults few.1 w.1))
-          (fronts_put w.2)))
-          (λ m. as_run (Doing c) s Memory before after m.0 (in_memory files (fronts_put m.1))) p)
-          p
+            is = sym done;
+            files = wrote;
+            out = told;
+            err = same_told before.err after.err err ∙ ap (grown before.err.told) (sym mute);
+          })) valid err
+
+    -- Files are written, or lines are told.
+    pub handed_over : (m : Made) → IfSome before.files.held (λ held. outcome_of c held
+        ≡ outcome_made m)
+        → IfSome before.files.held (ReadsValid c) → Makes c m
+        → after.files.faults ≡ before.files.faults → after.err ≡ before.err
+        → (s : Status) → HandedOver m s before.outs after.outs before.out after.out
+        → Runs (Doing c) s before after
+    handed_over (Files list) are valid fits files err s p =
+        let o : Outcome = made (map file_seen list.items) in
+        let alone = files_alone before after c list fits p.0 in
+        let silent : GrewByFront before.out.told after.out.told [] =
+        same_front before.out after.out [] p.0 in
+        ⊎_elim
+        (λ d. as_run (Doing c) s Done before after d.0
+        (made_whole o refl refl are valid files err alone d.1
+        (ap (λ (x : SinkState). x.faults) p.0) d.2 (same_told before.out after.out p.0)))
+        (λ q. ⊎_elim
+        (λ w. as_run (Doing c) s WriteFault before after w.0
+        (in_write_fault files alone (inl (above before.outs.faults after.outs.faults few.1 w.1))
+        (fronts_made o refl refl are valid files err alone w.2 silent)))
+        (λ m. as_run (Doing c) s Memory before after m.0
+        (in_memory files alone (fronts_made o refl refl are valid files err alone m.2 silent))) q)
+        p.1
+    handed_over (Lines lines) are valid fits files err s p =
+        let o : Outcome = told lines.items in
+        let alone = lines_alone before after c lines fits p.0 in
+        let unwritten : GrewByFiles before.outs.written after.outs.written [] =
+        same_files before.outs after.outs [] p.0 in
+        ⊎_elim
+        (λ d. as_run (Doing c) s Done before after d.0
+        (made_whole o refl refl are valid files err alone (ap (λ (x : OutsState). x.faults) p.0) d.1
+        (same_written before.outs after.outs p.0) d.2))
+        (λ q. ⊎_elim
+        (λ w. as_run (Doing c) s WriteFault before after w.0
+        (in_write_fault files alone
+        (inr (inl (above before.out.faults after.out.faults few.2 w.1)))
+        (fronts_made o refl refl are valid files err alone unwritten w.2)))
+        (λ m. as_run (Doing c) s Memory before after m.0
+        (in_memory files alone (fronts_made o refl refl are valid files err alone unwritten m.2)))
+        q)
+        p.1
 
     -- It was said why there are none.
-    module _ (outs : after.outs ≡ before.outs) where
+    module _ (outs : after.outs ≡ before.outs) (out : after.out ≡ before.out) where
+      alone : LeavesAlone (Doing c) before after
+      alone = both_alone (Doing c) before after outs out
+
       abbrev AreDiags : List Diag → Type 0
       AreDiags list = IfSome before.files.held (λ held. outcome_of c held ≡ diagnosed list)
 
@@ -439,30 +516,31 @@ module _ (before after : Outside) (few : CanRise before) (out : after.out ≡ be
       stopped (stop.Fault path) rose named s t =
           ⊎_elim
           (λ r. as_run (Doing c) s ReadFault before after r.0
-          (in_read_fault rose outs (string_bytes path) named r.1))
+          (in_read_fault rose outs out (string_bytes path) named r.1))
           (λ m. as_run (Doing c) s Memory before after m.0
-          (faulted_in_memory rose outs (string_bytes path) named m.1)) t
+          (faulted_in_memory rose outs out (string_bytes path) named m.2)) t
       stopped (stop.Diagnosed list) files are s t =
           ⊎_elim
           (λ d. as_run (Doing c) s Diagnosed before after d.0
-          (in_diagnosed files (ap (λ (x : OutsState). x.faults) outs) d.1
+          (in_diagnosed files alone (ap (λ (x : OutsState). x.faults) outs)
+          (ap (λ (x : SinkState). x.faults) out) d.1
           (of_diagnosed list.items are (λ o. Meets o Diagnosed before after)
           (record {
             is = refl;
             files = same_written before.outs after.outs outs;
             out = same_told before.out after.out out;
             err = d.2;
-          })) outs))
+          })) (outs, out)))
           (λ t. ⊎_elim
           (λ w. as_run (Doing c) s WriteFault before after w.0
-          (in_write_fault files (inr (inr (above before.err.faults after.err.faults few.3 w.1)))
+          (in_write_fault files alone (inr (inr (above before.err.faults after.err.faults few.3 w.1)))
           (fronts_told list.items are w.2)))
           (λ m. as_run (Doing c) s Memory before after m.0
-          (in_memory files (fronts_told list.items are m.1))) t)
+          (in_memory files alone (fronts_told list.items are m.2))) t)
           t
       stopped stop.Memory files _ s t =
           as_run (Doing c) s Memory before after t.0
-          (in_memory files (if_some before.files.held _ (λ held _. record {
+          (in_memory files alone (if_some before.files.held _ (λ held _. record {
             files = same_files before.outs after.outs (outcome_of c held).files outs;
             out = same_front before.out after.out (outcome_of c held).out out;
             err = same_front before.err after.err (outcome_of c held).err t.1;

@@ -6,16 +6,13 @@ use Rattle.std.proofs.lemmas.List.{length-map}
 use Rattle.hdr_core.specs.declared.diagnostics.Diag.{Diag}
 use Rattle.class_desc.specs.declared.class.ClassDesc.{ClassDesc}
 use Rattle.class_views.specs.Kept.{strip_each}
-use Rattle.used_files.specs.Paths.{File, UsedFile}
+use Rattle.used_files.specs.Paths.{File}
 use Rattle.file_contents.specs.declared.items.Item.{Item}
-use Rattle.file_contents.specs.declared.limits.Limits.{Limits}
-use Rattle.file_contents.specs.Contents.{classes, items_of}
-use Rattle.file_contents.specs.Phases.{file_phases}
+use Rattle.file_contents.specs.Contents.{classes}
 use Rattle.commands.specs.declared.split.Source.{Source}
 use Rattle.commands.specs.Outcome.{module_files, files_of}
-use Rattle.commands.specs.Phases.{kept_class, limit_phase, item_phases, first_phase}
+use Rattle.commands.specs.Phases.{kept_class, limit_phase}
 use Rattle.commands.specs.Sources.{sources, sourced_limits, sourced_file}
-use Rattle.commands.proofs.Phased.{first_items}
 use Rattle.commands.proofs.Sourced.{limits_sourced, files_sourced, as_many}
 
 module _ (items : List Item) (from : List Source) (stripped : List (Option ClassDesc))
@@ -45,11 +42,3 @@ module _ (items : List Item) (from : List Source) (stripped : List (Option Class
       ∙ ap (λ list. flat_map (λ item. module_files output item.content) items ++ list)
       (ap (flat_map (sourced_file output)) side_by_side
       ∙ files_sourced (classes items) output items)
-
--- the first phase is that of the items
-pub phase_of_items : (limits : Limits) (files : List UsedFile) (items : List Item)
-    (list : List Diag)
-    → file_phases limits files ≡ [] → items ≡ items_of files → item_phases items ≡ list
-    → first_phase limits files ≡ list
-phase_of_items limits files items list fine are e =
-    first_items limits files fine ∙ ap item_phases (sym are) ∙ e

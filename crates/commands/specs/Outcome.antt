@@ -7,7 +7,9 @@ use Rattle.hdr_core.specs.declared.diagnostics.Diag.{Diag}
 use Rattle.java_names.specs.Paths.{path_of_name}
 use Rattle.class_desc.specs.declared.class.ClassDesc.{ClassDesc}
 use Rattle.class_desc.specs.Layout.{layout}
-use Rattle.command_line.specs.Words.{Command, Ijar, Job, Refused, Doing, refusal_line}
+use Rattle.client_view.specs.Numbers.{views}
+use Rattle.questions.specs.Asking.{Ask}
+use Rattle.command_line.specs.Words.{Command, Ijar, Asks, Job, Refused, Doing, refusal_line}
 use Rattle.file_contents.specs.declared.limits.Limits.{Limits}
 use Rattle.file_contents.specs.declared.limits.TheConstants.{LIMITS}
 use Rattle.file_contents.specs.declared.items.Content.{Content}
@@ -17,9 +19,13 @@ use Rattle.run_ends.specs.declared.status.Status.{Status}
 use Rattle.run_ends.specs.declared.status.Status.TheVariants.{Done, Diagnosed, Usage}
 use Rattle.used_files.specs.Order.{in_order}
 use Rattle.run_ends.specs.OutFiles.{file_order}
+use Rattle.run_ends.specs.Tells.{all_lines}
+use Rattle.used_files.specs.declared.kinds.FileKinds.TheVariants.{ClassesAndModules}
 use Rattle.used_files.specs.Paths.{File, UsedFile, tree}
-use Rattle.commands.specs.Phases.{diagnostics, kept_class}
+use Rattle.file_contents.specs.Phases.{twice}
 use Rattle.file_contents.specs.Contents.{items_of, classes}
+use Rattle.commands.specs.Answers.{answers, files_asked}
+use Rattle.commands.specs.Phases.{diagnostics, item_phases, kept_class}
 
 pub record Outcome : Type 0 where
   pub files : List File
@@ -66,17 +72,34 @@ diagnosed list = record { files = []; out = []; err = printed list; status = Dia
 abbrev pub made : List File → Outcome
 made files = record { files = files; out = []; err = []; status = Done }
 
--- files are made only where there is no diagnostic
-abbrev pub unless_diagnosed : List Diag → List File → Outcome
-unless_diagnosed [] files = made files
-unless_diagnosed (d ∷ ds) files = diagnosed (d ∷ ds)
+-- the lines are told on standard output, and nothing is written
+abbrev pub told : List (List ℕ) → Outcome
+told lines = record { files = []; out = all_lines lines; err = []; status = Done }
 
+-- what a job makes, only where there is no diagnostic
+abbrev pub unless_diagnosed : List Diag → Outcome → Outcome
+unless_diagnosed [] outcome = outcome
+unless_diagnosed (d ∷ ds) outcome = diagnosed (d ∷ ds)
+
+-- what is made of the classes and modules of files, by the phases that they go through
+abbrev pub made_of : (List Item → List Diag) → (List Item → Outcome) → Limits → List UsedFile
+    → Outcome
+made_of phases make limits files =
+    unless_diagnosed (diagnostics limits phases files) (make (items_of files))
+
+-- the stripped classes are written
 abbrev pub ijar : Limits → List ℕ → List UsedFile → Outcome
-ijar limits output files =
-    unless_diagnosed (diagnostics limits files) (written output (items_of files))
+ijar limits output files = made_of item_phases (λ items. made (written output items)) limits files
+
+-- The questions are answered over the classes read. None of these is written, so they are bound by
+-- no limit of classes that are written.
+abbrev pub asking : Limits → Ask → List UsedFile → Outcome
+asking limits asked files =
+    made_of twice (λ items. told (answers asked (views (classes items)))) limits files
 
 abbrev pub outcome_of : Command → List File → Outcome
-outcome_of (Ijar inputs output) held = ijar LIMITS output (tree held inputs)
+outcome_of (Ijar inputs output) held = ijar LIMITS output (tree ClassesAndModules held inputs)
+outcome_of (Asks asked) held = asking LIMITS asked (files_asked asked held)
 
 -- the line is told, and nothing else is done
 abbrev pub usage_of : List ℕ → Outcome

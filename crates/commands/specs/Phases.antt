@@ -68,14 +68,15 @@ limits_at all item = limits_in all item.file item.path item.content
 abbrev pub limit_phase : List Item → List Diag
 limit_phase items = flat_map (limits_at (classes items)) items
 
--- ---- the first phase
-
--- what the classes and modules give rise to
+-- what classes and modules that are stripped give rise to
 abbrev pub item_phases : List Item → List Diag
 item_phases items = or_else (twice items) (limit_phase items)
 
-abbrev pub first_phase : Limits → List UsedFile → List Diag
-first_phase limits files = or_else (file_phases limits files) (item_phases (items_of files))
+-- ---- the first phase
 
-abbrev pub diagnostics : Limits → List UsedFile → List Diag
-diagnostics limits files = in_order diag_order (first_phase limits files)
+-- what the files give rise to, else what their classes and modules do
+abbrev pub first_phase : Limits → (List Item → List Diag) → List UsedFile → List Diag
+first_phase limits phases files = or_else (file_phases limits files) (phases (items_of files))
+
+abbrev pub diagnostics : Limits → (List Item → List Diag) → List UsedFile → List Diag
+diagnostics limits phases files = in_order diag_order (first_phase limits phases files)

@@ -4,7 +4,7 @@
 -- Where an answer is said to come, want of memory may be answered in its place.
 use Rattle.std.specs.Prelude.{◌≡◌, ◌⊎◌, ℕ, ◌<◌, List, None, IfSome, IsSome}
 use Rattle.hdr_core.specs.Causes.{grown, GrewByFront}
-use Rattle.command_line.specs.Words.{Job, usage_line}
+use Rattle.command_line.specs.Words.{Ijar, Asks, Job, Refused, Doing, usage_line}
 use Rattle.used_files.specs.Paths.{File}
 use Rattle.run_ends.specs.declared.status.Status.{Status}
 use Rattle.run_ends.specs.declared.status.Status.TheVariants.{Done, Diagnosed, Usage, ReadFault}
@@ -63,19 +63,30 @@ pub record Refuses (job : Job) (status : Status) (before after : Outside) : Type
   pub is : (status ≡ Usage) ⊎ (status ≡ Memory)
   pub files : after.files ≡ before.files
   pub outs : after.outs ≡ before.outs
+  pub out : after.out ≡ before.out
   pub front : (held : List File) → MeetsFront (outcome job held) before after
   pub whole : status ≡ Usage → (ErrFailed before after → ⊥) →
       (held : List File) → Meets (outcome job held) status before after
 
--- The line of the root or used path at which a call failed is told, and nothing is written.
+-- The line of the root or used path at which a call failed is told, nothing is written, and
+-- nothing is told on standard output.
 pub record TellsFault (job : Job) (status : Status) (before after : Outside) : Type 0 where
   pub is : (status ≡ ReadFault) ⊎ (status ≡ Memory)
   pub outs : after.outs ≡ before.outs
+  pub out : after.out ≡ before.out
   pub path : List ℕ
   pub named : IfSome before.files.held (λ held. IsPathOfJob held job path)
   pub front : GrewByFront before.err.told after.err.told (fault_line path)
   pub whole : status ≡ ReadFault → (ErrFailed before after → ⊥) →
       after.err.told ≡ grown before.err.told (fault_line path)
+
+-- What a job leaves alone, so that nothing is written or told there and no call fails: of `ijar`
+-- standard output, and of `ask` where files are written.
+abbrev pub LeavesAlone : Job → Outside → Outside → Type 0
+LeavesAlone (Refused refusal) before after =
+    (after.outs ≡ before.outs) × (after.out ≡ before.out)
+LeavesAlone (Doing (Ijar inputs output)) before after = after.out ≡ before.out
+LeavesAlone (Doing (Asks asked)) before after = after.outs ≡ before.outs
 
 pub record Runs (job : Job) (status : Status) (before after : Outside) : Type 0 where
   -- Usage comes where the words are no job, also where telling of it failed, and nowhere else.
@@ -94,17 +105,17 @@ pub record Runs (job : Job) (status : Status) (before after : Outside) : Type 0 
   -- On Done and Diagnosed no call failed, and the outcome is met.
   pub met : (status ≡ Done) ⊎ (status ≡ Diagnosed) →
       Stood before after × OfOutcome job before (λ o. Meets o status before after)
-  -- On Done each question of a client that succeeds over the classes read has the same answer
-  -- over those whose layouts are the files of the outcome.
+  -- On Done of `ijar` each question of a client that succeeds over the classes read has the same
+  -- answer over those whose layouts are the files of the outcome. Of `ask` there are no files.
   pub shows : status ≡ Done → IfSome before.files.held (ShowsTheSameOf job)
   -- Where no call failed, a job is done or diagnosed, as its outcome says.
   pub complete : usage_line job ≡ None → NoneFailed before after →
       (status ≡ Done) ⊎ ((status ≡ Diagnosed) ⊎ (status ≡ Memory))
   pub exact : usage_line job ≡ None → NoneFailed before after →
       OfOutcome job before (λ o. (status ≡ o.status) ⊎ (status ≡ Memory))
-  -- Also where the files don't tell what they hold: nothing is written on Usage, ReadFault and
-  -- Diagnosed, nothing is told on Done, and no command of today calls standard output.
-  pub unwritten : (status ≡ Usage) ⊎ ((status ≡ ReadFault) ⊎ (status ≡ Diagnosed)) →
-      after.outs ≡ before.outs
+  -- Also where the files don't tell what they hold: on Usage, ReadFault and Diagnosed nothing is
+  -- written and nothing told on standard output, and on Done nothing is told on standard error.
+  pub untouched : (status ≡ Usage) ⊎ ((status ≡ ReadFault) ⊎ (status ≡ Diagnosed)) →
+      (after.outs ≡ before.outs) × (after.out ≡ before.out)
   pub silent : status ≡ Done → after.err ≡ before.err
-  pub out : after.out ≡ before.out
+  pub alone : LeavesAlone job before after

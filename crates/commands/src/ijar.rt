@@ -4,6 +4,7 @@ ghost use Rattle.commands.specs.Outcome.{files_of, ijar, made, diagnosed};
 ghost use Rattle.file_contents.specs.Valid.{AreValid};
 ghost use Rattle.used_files.specs.Parts.{now_of};
 ghost use Rattle.used_files.specs.Paths.{tree};
+ghost use Rattle.used_files.specs.declared.kinds.FileKinds.TheVariants.{ClassesAndModules};
 ghost use Rattle.commands.specs.Phases.{first_phase, item_phases};
 ghost use Rattle.file_contents.specs.Contents.{items_of};
 ghost use Rattle.used_files.specs.Stops.{IsFilled, StopsOnly, FaultRises, IsRootOrUsed};
@@ -16,7 +17,7 @@ use hdr_core::{Files, sort_diags};
 use ijar_strip::into_all_stripped;
 use run_ends::{OutFile, sort_files};
 use std::alloc::Global;
-use used_files::Stop;
+use used_files::{FileKinds, Stop};
 
 /// The files that are written for classes and modules: of these as they are, of those the kept
 /// ones without what their clients don't see.
@@ -48,20 +49,23 @@ fn strip_roots<F: Files>(
 ) -> Result<Vec<OutFile>, Stop>
     ensures files { IfOk result (λ list. IfSome (F.held files.old) (λ held.
         map file_seen list.items
-        ≡ files_of output.now (items_of (tree held (map now_of inputs.now))))) }
+        ≡ files_of output.now
+        (items_of (tree ClassesAndModules held (map now_of inputs.now))))) }
     ensures fine { IfOk result (λ _. IfSome (F.held files.old) (λ held.
-        first_phase limits (tree held (map now_of inputs.now)) ≡ [])) }
+        first_phase limits item_phases
+        (tree ClassesAndModules held (map now_of inputs.now)) ≡ [])) }
     ensures valid { IfOk result (λ _. IfSome (F.held files.old) (λ held.
-        AreValid (items_of (tree held (map now_of inputs.now))))) }
+        AreValid (items_of (tree ClassesAndModules held (map now_of inputs.now))))) }
     ensures stops { IfErr result (λ stop. StopsOnly stop
         (λ path. IfSome (F.held files.old)
-        (λ held. IsRootOrUsed held (map now_of inputs.now) path))
+        (λ held. IsRootOrUsed ClassesAndModules held (map now_of inputs.now) path))
         (λ list. IsFilled list × IfSome (F.held files.old) (λ held.
-        first_phase limits (tree held (map now_of inputs.now)) ≡ list))) }
+        first_phase limits item_phases
+        (tree ClassesAndModules held (map now_of inputs.now)) ≡ list))) }
     ensures faults { FaultRises result (F.faults files.old) (F.faults files.new) }
     ensures held { F.held files.new ≡ F.held files.old }
 {
-    let items = read_items(alloc, limits, inputs, files)?;
+    let items = read_items(alloc, limits, FileKinds::ClassesAndModules, inputs, files)?;
     strip_items(alloc, output, items)
 }
 
@@ -75,15 +79,16 @@ pub fn strip_inputs<F: Files>(
     files: &mut F,
 ) -> Result<Vec<OutFile>, Stop>
     ensures files { IfOk result (λ list. IfSome (F.held files.old) (λ held.
-        ijar limits output.now (tree held (map now_of inputs.now))
+        ijar limits output.now (tree ClassesAndModules held (map now_of inputs.now))
         ≡ made (map file_seen list.items))) }
     ensures valid { IfOk result (λ _. IfSome (F.held files.old) (λ held.
-        AreValid (items_of (tree held (map now_of inputs.now))))) }
+        AreValid (items_of (tree ClassesAndModules held (map now_of inputs.now))))) }
     ensures stops { IfErr result (λ stop. StopsOnly stop
         (λ path. IfSome (F.held files.old)
-        (λ held. IsRootOrUsed held (map now_of inputs.now) path))
+        (λ held. IsRootOrUsed ClassesAndModules held (map now_of inputs.now) path))
         (λ list. IfSome (F.held files.old) (λ held.
-        ijar limits output.now (tree held (map now_of inputs.now)) ≡ diagnosed list))) }
+        ijar limits output.now (tree ClassesAndModules held (map now_of inputs.now))
+        ≡ diagnosed list))) }
     ensures faults { FaultRises result (F.faults files.old) (F.faults files.new) }
     ensures held { F.held files.new ≡ F.held files.old }
 {

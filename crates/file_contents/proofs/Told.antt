@@ -5,6 +5,7 @@ use Rattle.std.proofs.lemmas.List.{length-map}
 use Rattle.std.specs.Prelude.{Option, IfSome}
 use Rattle.std.specs.List.{flat_map}
 use Rattle.hdr_core.specs.declared.diagnostics.Diag.{Diag}
+use Rattle.used_files.specs.declared.kinds.FileKinds.{FileKinds}
 use Rattle.used_files.specs.Paths.{File, Place, UsedFile, file_at, first_uses, places, tree}
 use Rattle.used_files.specs.Stops.{IsFilled}
 use Rattle.used_files.proofs.Listings.{in_tree}
@@ -27,17 +28,18 @@ filled_many limits [] list many = absurd many
 filled_many limits (place ∷ uses) list many =
     let P : List Diag → Type 0 = IsFilled in subst P (sym many.1) tt
 
-module _ (held later : Option (List File)) (same : later ≡ held) (roots : List (List ℕ))
-    (listed uses : List Place) (l : IfSome held (λ files. listed ≡ flat_map (places files) roots))
+module _ (kinds : FileKinds) (held later : Option (List File)) (same : later ≡ held)
+    (roots : List (List ℕ)) (listed uses : List Place)
+    (l : IfSome held (λ files. listed ≡ flat_map (places kinds files) roots))
     (u : uses ≡ first_uses listed) (limits : Limits) where
   abbrev pub IsTold : List Diag → Type 0
-  IsTold list = IfSome held (λ files. file_phases limits (tree files roots) ≡ list)
+  IsTold list = IfSome held (λ files. file_phases limits (tree kinds files roots) ≡ list)
 
   -- there are too many files
   pub many_told : (list : List Diag) → TooMany limits uses list → IsFilled list × IsTold list
   many_told list many = (
     filled_many limits uses list many,
-    in_tree held later same roots listed uses l u (λ files. file_phases limits files ≡ list)
+    in_tree kinds held later same roots listed uses l u (λ files. file_phases limits files ≡ list)
         (if_some later _ (λ files e.
         (told_many limits (map (file_at files) uses) uses list (places_back files uses) many).1)),
   )
@@ -47,9 +49,9 @@ module _ (held later : Option (List File)) (same : later ≡ held) (roots : List
       → IfSome later (λ files. IsFound limits (map (file_at files) uses) found)
       → ((files : List UsedFile) → length files ≤ limits.files → IsFound limits files found
       → P files)
-      → IfSome held (λ files. P (tree files roots))
+      → IfSome held (λ files. P (tree kinds files roots))
   with_found found P few is f =
-      in_tree held later same roots listed uses l u P
+      in_tree kinds held later same roots listed uses l u P
       (if_some later _ (λ files e.
       f (map (file_at files) uses) (omega (arith, length-map uses (file_at files)))
       (from_some later _ files is e)))

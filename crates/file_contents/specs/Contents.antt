@@ -49,6 +49,7 @@ code_of_kind kind.F9 = code.F9
 code_of_kind kind.F10 = code.F10
 code_of_kind kind.F11 = code.F11
 code_of_kind kind.F12 = code.F12
+code_of_kind kind.F13 = code.F13
 
 abbrev pub unspelled : Numbered → Result Content ClassFault → List Diag
 unspelled n (Ok content) = []

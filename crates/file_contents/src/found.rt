@@ -1,5 +1,5 @@
 //! Files that are read one by one.
-ghost use Rattle.std.specs.Prelude.{◌≡◌, ◌≢◌, ◌≤◌, ◌<◌, ◌^◌, ◌++◌, [], ◌∷◌, true, false, Err};
+ghost use Rattle.std.specs.Prelude.{◌≡◌, ◌≢◌, ◌≤◌, ◌<◌, ◌+◌, ◌^◌, ◌++◌, [], ◌∷◌, true, false, Err};
 ghost use Rattle.std.specs.Prelude.{length, map, IfOk, OnOk, IfErr, IfSome, IsErrOf, Contains};
 ghost use Rattle.hdr_core.specs.Causes.{CountsFault};
 ghost use Rattle.hdr_core.specs.Held.{HoldsPath, HoldsBytes, HoldsBeyond};
@@ -67,6 +67,7 @@ fn code_of_kind(kind: ClassKind) -> Code
         ClassKind::F10 => Code::F10,
         ClassKind::F11 => Code::F11,
         ClassKind::F12 => Code::F12,
+        ClassKind::F13 => Code::F13,
     }
 }
 
@@ -102,6 +103,8 @@ fn decode(
         (Decodes (file, used_file place.entry bytes.now) found.old found.new) }
     ensures valid { OnOk result
         (AreValid found.old.items.items → AreValid found.new.items.items) }
+    ensures grew { OnOk result
+        (length found.new.items.items ≤ length found.old.items.items + 1) }
 {
     match read_content(alloc, &place, bytes) {
         Ok(content) => {
@@ -139,6 +142,8 @@ fn count(
     ensures few { IfOk result (λ goes_on. goes_on ≡ true → found.new.total ≤ limits.bytes) }
     ensures valid { OnOk result
         (AreValid found.old.items.items → AreValid found.new.items.items) }
+    ensures grew { OnOk result
+        (length found.new.items.items ≤ length found.old.items.items + 1) }
 {
     found.total += bytes.len() as u64;
     if found.total > limits.bytes as u64 {
@@ -167,6 +172,8 @@ fn take_file<F: Files>(
     ensures few { IfOk result (λ goes_on. goes_on ≡ true → found.new.total ≤ limits.bytes) }
     ensures valid { OnOk result
         (AreValid found.old.items.items → AreValid found.new.items.items) }
+    ensures grew { OnOk result
+        (length found.new.items.items ≤ length found.old.items.items + 1) }
     ensures stops { IfErr result (λ stop.
         StopsOnly stop (λ path. path ≡ place.entry.path) (λ _. ⊥)) }
     ensures faults { FaultRises result (F.faults files.old) (F.faults files.new) }
@@ -197,6 +204,8 @@ pub fn read_files<F: Files>(
     ensures found { IfOk result (λ found. IfSome (F.held files.old) (λ held.
         IsFound limits (map (file_at held) used.entry.items) found)) }
     ensures valid { IfOk result (λ found. AreValid found.items.items) }
+    ensures few { IfOk result (λ found.
+        length found.items.items ≤ length used.entry.items) }
     ensures stops { IfErr result (λ stop. StopsOnly stop
         (λ path. Contains (map (λ place. place.path) used.entry.items) path) (λ _. ⊥)) }
     ensures faults { FaultRises result (F.faults files.old) (F.faults files.new) }

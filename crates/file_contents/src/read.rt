@@ -14,7 +14,7 @@ use crate::items::Item;
 use crate::limits::Limits;
 use hdr_core::{Code, Diag, Files, Memory};
 use std::alloc::Global;
-use used_files::{Stop, UsedPath, first_uses, list_roots};
+use used_files::{FileKinds, Stop, UsedPath, first_uses, list_roots};
 
 /// A list of one diagnostic.
 fn one(alloc: Global, diag: Diag) -> Result<Vec<Diag>, Memory>
@@ -53,26 +53,29 @@ pub fn stop_at(list: Vec<Diag>) -> Result<(), Stop>
     Err(Stop::Diagnosed(list))
 }
 
-/// Lists the roots in their order and reads what they use.
+/// Lists the roots in their order and reads what is used of them.
 pub fn read_items<F: Files>(
     alloc: Global,
     limits: Limits,
+    kinds: FileKinds,
     roots: &[&str],
     files: &mut F,
 ) -> Result<Vec<Item>, Stop>
     ensures items { IfOk result (λ items. IfSome (F.held files.old) (λ held.
-        items.items ≡ items_of (tree held (map now_of roots.now)))) }
+        items.items ≡ items_of (tree kinds held (map now_of roots.now)))) }
     ensures fine { IfOk result (λ _. IfSome (F.held files.old) (λ held.
-        file_phases limits (tree held (map now_of roots.now)) ≡ [])) }
+        file_phases limits (tree kinds held (map now_of roots.now)) ≡ [])) }
     ensures valid { IfOk result (λ items. AreValid items.items) }
+    ensures few { IfOk result (λ items. length items.items ≤ limits.files) }
     ensures stops { IfErr result (λ stop. StopsOnly stop
-        (λ path. IfSome (F.held files.old) (λ held. IsRootOrUsed held (map now_of roots.now) path))
+        (λ path. IfSome (F.held files.old)
+        (λ held. IsRootOrUsed kinds held (map now_of roots.now) path))
         (λ list. IsFilled list × IfSome (F.held files.old) (λ held.
-        file_phases limits (tree held (map now_of roots.now)) ≡ list))) }
+        file_phases limits (tree kinds held (map now_of roots.now)) ≡ list))) }
     ensures faults { FaultRises result (F.faults files.old) (F.faults files.new) }
     ensures held { F.held files.new ≡ F.held files.old }
 {
-    let listed = list_roots(alloc, roots, files)?;
+    let listed = list_roots(alloc, kinds, roots, files)?;
     let used = first_uses(alloc, listed)?;
     check_count(alloc, limits, &used)?;
     let found = read_files(alloc, limits, used, files)?;

@@ -1,5 +1,5 @@
 -- Lines that are told whole or in part.
-use Rattle.std.proofs.Common.{◌≡◌, ℕ, List, [], refl, sym, ap, append-nil}
+use Rattle.std.proofs.Common.{◌≡◌, ℕ, List, [], refl, sym, ap, append-nil, inl}
 use Rattle.std.specs.Prelude.{Option, Some, None}
 use Rattle.hdr_core.specs.Causes.{grown, GrewByFront}
 use Rattle.run_ends.specs.Outside.{SinkState}
@@ -19,6 +19,9 @@ pub grew_whole : (told told' : Option (List ℕ)) (text : List ℕ) → told' �
 grew_whole told told' text e = (text, [], append-nil text, e)
 
 pub told_whole : (line : List ℕ) (before after : SinkState) → after.told ≡ grown before.told line
-    → TellsLine line before after
-told_whole line before after e =
-    record { front = grew_whole before.told after.told line e; whole = λ _. e }
+    → after.faults ≡ before.faults → TellsLine line before after
+told_whole line before after e level = record {
+  front = grew_whole before.told after.told line e;
+  whole = λ _. e;
+  count = inl level;
+}

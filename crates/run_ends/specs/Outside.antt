@@ -1,6 +1,7 @@
 -- The outside of a run at one moment: how many calls on each object failed, and what it tells of
 -- its contents.
-use Rattle.std.specs.Prelude.{ℕ, ◌-◌, ◌^◌, ◌<◌, List, Option}
+use Rattle.std.specs.Prelude.{◌≡◌, ◌⊎◌, ℕ, ◌-◌, ◌^◌, ◌<◌, List, Option}
+use Rattle.hdr_core.specs.Causes.{Rose}
 use Rattle.hdr_core.specs.declared.files.Files.{Ghosts as FilesMembers}
 use Rattle.hdr_core.specs.declared.outs.Outs.{Ghosts as OutsMembers}
 use Rattle.hdr_core.specs.declared.sink.Sink.{Ghosts as SinkMembers}
@@ -42,6 +43,17 @@ outside of_files of_outs of_sink files outs out err = record {
   out = sink_state of_sink out;
   err = sink_state of_sink err;
 }
+
+-- a count of faults is what it was, or rose by one
+abbrev pub RoseAtMostOnce : ℕ → ℕ → Type 0
+RoseAtMostOnce before after = (after ≡ before) ⊎ Rose before after
+
+-- At most one call on each object failed. Since any call may fail, none was made behind it.
+pub record FailsAtMostOnce (before after : Outside) : Type 0 where
+  pub files : RoseAtMostOnce before.files.faults after.files.faults
+  pub outs : RoseAtMostOnce before.outs.faults after.outs.faults
+  pub out : RoseAtMostOnce before.out.faults after.out.faults
+  pub err : RoseAtMostOnce before.err.faults after.err.faults
 
 -- each count of faults is below its greatest number, so that it rises where a call fails
 abbrev pub CanRise : Outside → Type 0

@@ -4,7 +4,7 @@ ghost use Rattle.run_ends.specs.Statuses.{status_number};
 /// How a run ended. The number is the status of the process.
 #[derive(Clone, Copy, PartialEq, Eq)]
 pub enum Status {
-    /// The files are written.
+    /// The files are written, or the lines are told.
     Done,
     /// The input has faults, which were told. No file is written.
     Diagnosed,

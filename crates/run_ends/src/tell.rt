@@ -4,7 +4,7 @@ ghost use Rattle.hdr_core.specs.Diagnostics.{printed};
 ghost use Rattle.command_line.specs.Seen.{refusal_seen};
 ghost use Rattle.command_line.specs.Words.{archive_line, refusal_line};
 ghost use Rattle.run_ends.specs.Outside.{sink_state};
-ghost use Rattle.run_ends.specs.Tells.{LineTold, DiagsTold, StopTold, fault_line};
+ghost use Rattle.run_ends.specs.Tells.{LineTold, TextTold, StopTold, fault_line};
 
 use crate::status::Status;
 use command_line::Refusal;
@@ -73,7 +73,7 @@ pub fn tell_refusal<S: Sink>(alloc: Global, refusal: Refusal<'_>, err: &mut S) -
 
 /// Tells the diagnostics of the input.
 fn tell_diags<S: Sink>(alloc: Global, list: &[Diag], err: &mut S) -> Status
-    ensures { DiagsTold (printed list.now) result
+    ensures { TextTold Status.Diagnosed (printed list.now) result
         (sink_state S.Sink err.old) (sink_state S.Sink err.new) }
 {
     match print_diags(alloc, list, err) {

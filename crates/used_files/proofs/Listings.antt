@@ -14,7 +14,8 @@ use lib.Pointwise.{bytes_decides}
 use Rattle.used_files.specs.Parts.{now_of}
 use Rattle.hdr_core.specs.Held.{held_at, is_under, IsListing, HoldsPath}
 use Rattle.used_files.specs.Order.{in_order}
-use Rattle.used_files.specs.Paths.{File, Place, path_order, place_at, is_class_path, is_repeated}
+use Rattle.used_files.specs.declared.kinds.FileKinds.{FileKinds}
+use Rattle.used_files.specs.Paths.{File, Place, path_order, place_at, is_used, is_repeated}
 use Rattle.used_files.specs.Paths.{used, places, first_use, first_uses, used_places, UsedFile}
 use Rattle.used_files.specs.Paths.{file_at, tree}
 use Rattle.used_files.specs.Stops.{IsRootOrUsed}
@@ -86,45 +87,46 @@ split : (a b : Bool) → (a && b) ≡ true → (a ≡ true) × (b ≡ true)
 split true b e = (refl, e)
 split false b e = absurd (let both : false ≡ true = e in cc)
 
-abbrev is_used : Path → Path → Bool
-is_used root path = is_under root path && is_class_path root path
+abbrev is_used_under : FileKinds → Path → Path → Bool
+is_used_under kinds root path = is_under root path && is_used kinds root path
 
 abbrev paths_of : List File → List Path
 paths_of held = map (λ file. file.0) held
 
-module _ (held : List File) (root : Path) (listed : List Path)
+module _ (kinds : FileKinds) (held : List File) (root : Path) (listed : List Path)
     (l : IsListing held root listed) where
-  to : (x : Path) → Among x (filter (is_class_path root) listed)
-      → Among x (filter (is_used root) (paths_of held))
+  to : (x : Path) → Among x (filter (is_used kinds root) listed)
+      → Among x (filter (is_used_under kinds root) (paths_of held))
   to x h =
-      let f = among_filter (is_class_path root) x listed h in
+      let f = among_filter (is_used kinds root) x listed h in
       let c = contains_among x listed f.0 in
-      filter_among (is_used root) x (paths_of held) (held_among held x (l.are_held x c))
-      (both (is_under root x) (is_class_path root x) (l.are_under x c) f.1)
+      filter_among (is_used_under kinds root) x (paths_of held) (held_among held x (l.are_held x c))
+      (both (is_under root x) (is_used kinds root x) (l.are_under x c) f.1)
 
-  from : (x : Path) → Among x (filter (is_used root) (paths_of held))
-      → Among x (filter (is_class_path root) listed)
+  from : (x : Path) → Among x (filter (is_used_under kinds root) (paths_of held))
+      → Among x (filter (is_used kinds root) listed)
   from x h =
-      let f = among_filter (is_used root) x (paths_of held) h in
-      let u = split (is_under root x) (is_class_path root x) f.1 in
-      filter_among (is_class_path root) x listed
+      let f = among_filter (is_used_under kinds root) x (paths_of held) h in
+      let u = split (is_under root x) (is_used kinds root x) f.1 in
+      filter_among (is_used kinds root) x listed
       (among_contains x listed (l.all x (among_held held x f.0) u.0)) u.1
 
   -- whatever the order of the listing
-  pub listing_used : in_order path_order (filter (is_class_path root) listed) ≡ used held root
+  pub listing_used : in_order path_order (filter (is_used kinds root) listed) ≡ used kinds held root
   listing_used =
-      same_order path_order nat_list_cmp_total exact_bytes (filter (is_class_path root) listed)
-      (filter (is_used root) (paths_of held)) to from
+      same_order path_order nat_list_cmp_total exact_bytes (filter (is_used kinds root) listed)
+      (filter (is_used_under kinds root) (paths_of held)) to from
 
 -- ---- each used path is held
 
-used_held : (held : List File) (root : Path) (x : Path) → Among x (used held root)
+used_held : (kinds : FileKinds) (held : List File) (root : Path) (x : Path)
+    → Among x (used kinds held root)
     → IsSome (held_at held x)
-used_held held root x h =
+used_held kinds held root x h =
     among_held held x
-    (among_filter (is_used root) x (paths_of held)
+    (among_filter (is_used_under kinds root) x (paths_of held)
     (among_given path_order nat_list_cmp_total exact_bytes x
-    (filter (is_used root) (paths_of held)) h)).0
+    (filter (is_used_under kinds root) (paths_of held)) h)).0
 
 abbrev EachHeld : List File → List Place → Type 0
 EachHeld held all = (place : Place) → Among place all → IsSome (held_at held place.path)
@@ -144,12 +146,13 @@ places_held held root (p ∷ ps) each place h =
     → Type 0 = λ q. IsSome (held_at held q.path) in subst P (sym e) (each p (inl refl)))
     (λ h. places_held held root ps (λ x h. each x (inr h)) place h) h
 
-roots_held : (held : List File) (roots : List Path) → EachHeld held (flat_map (places held) roots)
-roots_held held [] place h = absurd h
-roots_held held (root ∷ roots) place h =
-    ⊎_elim (λ h. places_held held root (used held root) (used_held held root) place h)
-    (λ h. roots_held held roots place h)
-    (append_cases place (places held root) (flat_map (places held) roots) h)
+roots_held : (kinds : FileKinds) (held : List File) (roots : List Path)
+    → EachHeld held (flat_map (places kinds held) roots)
+roots_held kinds held [] place h = absurd h
+roots_held kinds held (root ∷ roots) place h =
+    ⊎_elim (λ h. places_held held root (used kinds held root) (used_held kinds held root) place h)
+    (λ h. roots_held kinds held roots place h)
+    (append_cases place (places kinds held root) (flat_map (places kinds held) roots) h)
 
 uses_among : (paths : List Path) (n : ℕ) (all : List Place) (place : Place)
     → Among place (flat_map (first_use paths) (enumerate_from n all)) → Among place all
@@ -163,35 +166,36 @@ uses_among paths n (p ∷ ps) place h =
     by true h = absurd h
     by false h = ⊎_elim (λ e. e) (λ h. absurd h) h
 
-pub each_held : (held : List File) (roots : List Path) (place : Place)
-    → Contains (used_places held roots) place → IsSome (held_at held place.path)
-each_held held roots place h =
-    let all = flat_map (places held) roots in
-    roots_held held roots place
+pub each_held : (kinds : FileKinds) (held : List File) (roots : List Path) (place : Place)
+    → Contains (used_places kinds held roots) place → IsSome (held_at held place.path)
+each_held kinds held roots place h =
+    let all = flat_map (places kinds held) roots in
+    roots_held kinds held roots place
     (uses_among (map (λ (p : Place). p.path) all) 0 all place
-    (among_contains place (used_places held roots) h))
+    (among_contains place (used_places kinds held roots) h))
 
 -- ---- what the roots used, where the files are told
 
-module _ (held later : Option (List File)) (same : later ≡ held) (roots : List Path)
-    (listed uses : List Place) (l : IfSome held (λ files. listed ≡ flat_map (places files) roots))
+module _ (kinds : FileKinds) (held later : Option (List File)) (same : later ≡ held)
+    (roots : List Path) (listed uses : List Place)
+    (l : IfSome held (λ files. listed ≡ flat_map (places kinds files) roots))
     (u : uses ≡ first_uses listed) where
-  are_used : (files : List File) → held ≡ Some files → uses ≡ used_places files roots
+  are_used : (files : List File) → held ≡ Some files → uses ≡ used_places kinds files roots
   are_used files e =
       u ∙ ap first_uses
-      (from_some held (λ files. listed ≡ flat_map (places files) roots) files l e)
+      (from_some held (λ files. listed ≡ flat_map (places kinds files) roots) files l e)
 
   -- each used path is held
   pub must_hold : (place : Place) → Contains uses place → HoldsPath later place.path
   must_hold place there =
       if_some later _
       (λ files e. let P : List Place
-      → Type 0 = λ ps. Contains ps place in each_held files roots place
+      → Type 0 = λ ps. Contains ps place in each_held kinds files roots place
       (subst P (are_used files (sym same ∙ e)) there))
 
   -- the files are those of the tree
   pub in_tree : (P : List UsedFile → Type 0) → IfSome later (λ files. P (map (file_at files) uses))
-      → IfSome held (λ files. P (tree files roots))
+      → IfSome held (λ files. P (tree kinds files roots))
   in_tree P h =
       if_some held _
       (λ files e. let Q : List Place
@@ -200,7 +204,7 @@ module _ (held later : Option (List File)) (same : later ≡ held) (roots : List
 
   -- a used path
   pub is_use : (path : Path) → Contains (map (λ place. place.path) uses) path
-      → IfSome held (λ files. IsRootOrUsed files roots path)
+      → IfSome held (λ files. IsRootOrUsed kinds files roots path)
   is_use path there =
       if_some held _
       (λ files e. let Q : List Place
@@ -208,23 +212,23 @@ module _ (held later : Option (List File)) (same : later ≡ held) (roots : List
       (subst Q (are_used files e) there))
 
 -- one more root was listed
-pub roots_more : (files : List File) (roots : List (Bor Path)) (i : ℕ) (d : Bor Path)
-    (old new : List Place) (paths : List Path) → i < length roots
-    → old ≡ flat_map (places files) (map now_of (take i roots))
-    → paths ≡ used files (get_or roots i d).now
+pub roots_more : (kinds : FileKinds) (files : List File) (roots : List (Bor Path)) (i : ℕ)
+    (d : Bor Path) (old new : List Place) (paths : List Path) → i < length roots
+    → old ≡ flat_map (places kinds files) (map now_of (take i roots))
+    → paths ≡ used kinds files (get_or roots i d).now
     → new ≡ old ++ map (place_at (get_or roots i d).now) paths
-    → new ≡ flat_map (places files) (map now_of (take (i + 1) roots))
-roots_more files roots i d old new paths inside so_far are pushed =
+    → new ≡ flat_map (places kinds files) (map now_of (take (i + 1) roots))
+roots_more kinds files roots i d old new paths inside so_far are pushed =
     let root = (get_or roots i d).now in
-    let done = flat_map (places files) (map now_of (take i roots)) in
+    let done = flat_map (places kinds files) (map now_of (take i roots)) in
     pushed
     ∙ ap (λ list. list ++ map (place_at root) paths) so_far
     ∙ ap (λ ps. done ++ map (place_at root) ps) are
-    ∙ sym (ap (flat_map (places files))
+    ∙ sym (ap (flat_map (places kinds files))
     (ap (map now_of) (take_more roots i d inside)
     ∙ map_push now_of (take i roots) (get_or roots i d))
-    ∙ flat_map-append (places files) (map now_of (take i roots)) (root ∷ [])
-    ∙ ap (λ list. done ++ list) (append-nil (places files root)))
+    ∙ flat_map-append (places kinds files) (map now_of (take i roots)) (root ∷ [])
+    ∙ ap (λ list. done ++ list) (append-nil (places kinds files root)))
 
 -- the path of a root
 pub contains_root : (roots : List (Bor Path)) (i : ℕ) (d : Bor Path) (path : Path)

@@ -1,12 +1,11 @@
 -- Steps of loops over lists: by places, by numbers, and by what is left.
-use Rattle.std.proofs.Common.{◌≡◌, ℕ, ◌+◌, ◌-◌, ◌<◌, ◌≤◌, Bool, true, false, cond, List, [], ◌∷◌}
+use Rattle.std.proofs.Common.{◌≡◌, ℕ, ◌+◌, ◌<◌, ◌≤◌, Bool, true, false, cond, List, [], ◌∷◌}
 use Rattle.std.proofs.Common.{◌++◌}
-use Rattle.std.proofs.Common.{length, map, take, drop, get_or, refl, sym, ap, ◌∙◌, append-nil}
+use Rattle.std.proofs.Common.{length, map, take, get_or, refl, sym, ap, ◌∙◌, append-nil}
 use Rattle.std.proofs.Common.{append_assoc, arith}
 use Rattle.std.specs.Prelude.{filter}
 use Rattle.std.specs.List.{flat_map, enumerate_from}
 use Rattle.std.proofs.lemmas.List.{take_more, take_all, nil_from_length, length-take}
-use Rattle.std.proofs.lemmas.List.{length-drop, drop_more}
 use Rattle.std.proofs.lemmas.List.Concat.{flat_map-append}
 
 -- ---- with their numbers
@@ -101,21 +100,3 @@ module _ {X A : Type 0} where
   none_left f done whole left empty none h =
       sym (append-nil done) ∙ ap (λ list. done ++ list) (sym empty)
       ∙ ap (λ list. done ++ f list) (sym (nil_from_length left none)) ∙ h
-
--- ---- by an iterator
-
--- what an iterator over a list gives next
-pub record IsNext {X : Type 0} (all : List X) (i : ℕ) (x : X) (rest : List X) : Type 0 where
-  pub inside : i < length all
-  pub is : x ≡ get_or all i x
-  pub rest_is : rest ≡ drop (i + 1) all
-
-pub next_at : {X : Type 0} (all left rest : List X) (i : ℕ) (x : X) → left ≡ drop i all
-    → left ≡ x ∷ rest → IsNext all i x rest
-next_at all left rest i x is taken =
-    let few : length (drop i all) ≡ length all - i = length-drop i all in
-    let some : length (drop i all) ≡ length (x ∷ rest) = ap length (sym is ∙ taken) in
-    let inside : i < length all = omega arith in
-    let opened : x ∷ rest ≡ get_or all i x ∷ drop (i + 1) all =
-    sym taken ∙ (is ∙ drop_more all i x inside) in
-    record { inside = inside; is = cc opened; rest_is = cc opened }

@@ -12,7 +12,7 @@ use Rattle.std.specs.Str.{IsCharBoundary}
 use Rattle.std.proofs.lemmas.Bool.{eqb-true, lt-ltb, le-ltb}
 use Rattle.std.proofs.lemmas.Str.Pattern.{IsSplitOnceResult, split_once_first, starts_text}
 use Rattle.std.proofs.lemmas.Str.Pattern.{ends_text, strip_prefix_char}
-use Rattle.used_files.specs.Parts.{parts_seen, text_seen}
+use Rattle.option_words.specs.Seen.{parts_seen, text_seen}
 use Rattle.used_files.specs.Paths.{first_folder, behind_slash, stem}
 
 abbrev Text : Type 0

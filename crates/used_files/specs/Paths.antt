@@ -8,13 +8,12 @@ use Rattle.std.specs.declared.cmp.Ordering.{Ordering}
 use Rattle.std.specs.Ordering.{nat_cmp}
 use Rattle.std.specs.Cmp.Lexicographic.{slice_cmp}
 use Rattle.hdr_core.specs.Held.{held_at, is_under}
+use Rattle.option_words.specs.Paths.{slash}
+use Rattle.used_files.specs.declared.kinds.FileKinds.{FileKinds}
+use Rattle.used_files.specs.declared.kinds.FileKinds.TheVariants as kinds
 use Rattle.used_files.specs.Order.{in_order}
 
 -- ---- the parts of a path
-
--- '/', which stands between the parts of a path
-abbrev pub slash : ℕ
-slash = 47
 
 abbrev pub parts_of : List ℕ → List (List ℕ)
 parts_of path = slice_split (λ b. b == slash) path
@@ -75,6 +74,11 @@ is_class_path root path =
 abbrev pub is_module : List ℕ → Bool
 is_module path = bytes_eq (last_part path) (codes "module-info.class")
 
+-- whether a path under a root is used
+abbrev pub is_used : FileKinds → List ℕ → List ℕ → Bool
+is_used kinds.ClassesAndModules root path = is_class_path root path
+is_used kinds.Classes root path = is_class_path root path && not (is_module path)
+
 abbrev pub File : Type 0
 File = List ℕ × List ℕ
 
@@ -82,10 +86,10 @@ abbrev pub path_order : List ℕ → List ℕ → Ordering
 path_order = slice_cmp nat_cmp
 
 -- the paths under a root that are used, ordered by their bytes, each once
-abbrev pub used : List File → List ℕ → List (List ℕ)
-used held root =
+abbrev pub used : FileKinds → List File → List ℕ → List (List ℕ)
+used kinds held root =
     in_order path_order
-    (filter (λ path. is_under root path && is_class_path root path) (map (λ file. file.0) held))
+    (filter (λ path. is_under root path && is_used kinds root path) (map (λ file. file.0) held))
 
 -- a used path, with the root under which it is used
 pub record Place : Type 0 where
@@ -95,8 +99,8 @@ pub record Place : Type 0 where
 abbrev pub place_at : List ℕ → List ℕ → Place
 place_at root path = record { root = root; path = path }
 
-abbrev pub places : List File → List ℕ → List Place
-places held root = map (place_at root) (used held root)
+abbrev pub places : FileKinds → List File → List ℕ → List Place
+places kinds held root = map (place_at root) (used kinds held root)
 
 abbrev pub is_among : List (List ℕ) → List ℕ → Bool
 is_among keys key = list_any (bytes_eq key) keys
@@ -113,8 +117,8 @@ abbrev pub first_uses : List Place → List Place
 first_uses all = flat_map (first_use (map (λ place. place.path) all)) (enumerate_from 0 all)
 
 -- what the roots use, in their order; a path is used under the first root that uses it
-abbrev pub used_places : List File → List (List ℕ) → List Place
-used_places held roots = first_uses (flat_map (places held) roots)
+abbrev pub used_places : FileKinds → List File → List (List ℕ) → List Place
+used_places kinds held roots = first_uses (flat_map (places kinds held) roots)
 
 -- ---- the used files
 
@@ -129,5 +133,5 @@ abbrev pub file_at : List File → Place → UsedFile
 file_at held place = used_file place (unwrap_or (held_at held place.path) [])
 
 -- the used files with their bytes
-abbrev pub tree : List File → List (List ℕ) → List UsedFile
-tree held roots = map (file_at held) (used_places held roots)
+abbrev pub tree : FileKinds → List File → List (List ℕ) → List UsedFile
+tree kinds held roots = map (file_at held) (used_places kinds held roots)

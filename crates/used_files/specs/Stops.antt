@@ -4,6 +4,7 @@ use Rattle.std.specs.Prelude.{Contains}
 use Rattle.hdr_core.specs.Causes.{Rose}
 use Rattle.hdr_core.specs.declared.diagnostics.Diag.{Diag}
 use Rattle.used_files.specs.Paths.{File, used_places}
+use Rattle.used_files.specs.declared.kinds.FileKinds.{FileKinds}
 use Rattle.used_files.specs.declared.stop.Stop.{Stop}
 use Rattle.used_files.specs.declared.stop.Stop.TheVariants as stop
 
@@ -26,6 +27,7 @@ FaultRises (Err (stop.Diagnosed list)) before after = after ≡ before
 FaultRises (Err stop.Memory) before after = after ≡ before
 
 -- a root of the words, or a used path
-abbrev pub IsRootOrUsed : List File → List (List ℕ) → List ℕ → Type 0
-IsRootOrUsed held roots path =
-    Contains roots path ⊎ Contains (map (λ place. place.path) (used_places held roots)) path
+abbrev pub IsRootOrUsed : FileKinds → List File → List (List ℕ) → List ℕ → Type 0
+IsRootOrUsed kinds held roots path =
+    Contains roots path
+    ⊎ Contains (map (λ place. place.path) (used_places kinds held roots)) path

@@ -2,12 +2,14 @@
 #![tactic(auto)]
 
 mod file_path;
+mod kinds;
 mod paths;
 mod repeats;
 mod stop;
 mod used;
 
 pub use file_path::FilePath;
+pub use kinds::FileKinds;
 pub use paths::{is_module, part_below, stem};
 pub use repeats::repeated_marks;
 pub use stop::Stop;

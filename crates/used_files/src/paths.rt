@@ -1,12 +1,15 @@
 //! The parts of paths, and what they tell of a file.
 ghost use Rattle.std.specs.Prelude.{◌≡◌, ◌<◌, IfSome, length, codes, Option, option_map};
 ghost use Rattle.std.specs.List.{list_any};
-ghost use Rattle.used_files.specs.Parts.{parts_seen, text_seen};
+ghost use Rattle.option_words.specs.Seen.{parts_seen, text_seen};
 ghost use Rattle.used_files.specs.Paths.{first_folder as first_folder_of, parts_of, front_of};
 ghost use Rattle.used_files.specs.Paths.{last_part as last_part_of, behind_root as behind_root_of};
 ghost use Rattle.used_files.specs.Paths.{part_below as part_below_of, is_meta_inf};
 ghost use Rattle.used_files.specs.Paths.{is_class_path as is_class_path_of};
+ghost use Rattle.used_files.specs.Paths.{is_used as is_used_of};
 ghost use Rattle.used_files.specs.Paths.{is_module as is_module_of, stem as stem_of};
+
+use crate::kinds::FileKinds;
 
 /// The first folder of a path, and what stands behind its `/`.
 fn first_folder(path: &str) -> Option<(&str, &str)>
@@ -62,8 +65,8 @@ pub fn part_below<'a>(root: &str, path: &'a str) -> &'a str
     }
 }
 
-/// Class files are used, but for those in a folder META-INF below the root.
-pub fn is_class_path(root: &str, path: &str) -> bool
+/// Whether a path is that of a class file, and no folder META-INF below the root has it.
+fn is_class_path(root: &str, path: &str) -> bool
     ensures { result ≡ is_class_path_of root.now path.now }
 {
     path.as_bytes().ends_with(b".class") && !has_meta_inf(part_below(root, path))
@@ -74,6 +77,16 @@ pub fn is_module(path: &str) -> bool
     ensures { result ≡ is_module_of path.now }
 {
     last_part(path) == "module-info.class"
+}
+
+/// Whether a path under a root is used, by the kinds of files that are.
+pub fn is_used(kinds: FileKinds, root: &str, path: &str) -> bool
+    ensures { result ≡ is_used_of kinds root.now path.now }
+{
+    match kinds {
+        FileKinds::ClassesAndModules => is_class_path(root, path),
+        FileKinds::Classes => is_class_path(root, path) && !is_module(path),
+    }
 }
 
 /// The path of a class file without its ending.

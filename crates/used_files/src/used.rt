@@ -9,11 +9,12 @@ ghost use Rattle.used_files.specs.Order.{in_order};
 ghost use Rattle.used_files.specs.Parts.{now_of};
 ghost use Rattle.used_files.specs.Paths.{File, path_order, used, places, place_at};
 ghost use Rattle.used_files.specs.Paths.{first_uses as first_uses_of, is_repeated};
-ghost use Rattle.used_files.specs.Paths.{is_class_path as is_class_path_of};
+ghost use Rattle.used_files.specs.Paths.{is_used as is_used_of};
 ghost use Rattle.used_files.specs.Stops.{StopsOnly, FaultRises};
 
 use crate::file_path::FilePath;
-use crate::paths::is_class_path;
+use crate::kinds::FileKinds;
+use crate::paths::is_used;
 use crate::repeats::repeated_marks;
 use crate::stop::Stop;
 use hdr_core::{CallErr, Files, Memory};
@@ -63,26 +64,36 @@ impl<'a> UsedPath<'a> {
     }
 }
 
-/// Puts the path of a class file behind the others.
-fn push_class(root: &str, path: String, paths: &mut Vec<FilePath>) -> Result<(), Memory>
+/// Puts a path behind the others, if it is used.
+fn push_used(
+    kinds: FileKinds,
+    root: &str,
+    path: String,
+    paths: &mut Vec<FilePath>,
+) -> Result<(), Memory>
     ensures { OnOk result (paths.new.items ≡ paths.old.items
-        ++ (if is_class_path_of root.now (string_bytes path)
+        ++ (if is_used_of kinds root.now (string_bytes path)
         then string_bytes path ∷ [] else [])) }
 {
-    if is_class_path(root, path.as_str()) {
+    if is_used(kinds, root, path.as_str()) {
         paths.push(FilePath::from(path))?;
     }
     Ok(())
 }
 
-/// The class files among the paths that were listed under a root.
-fn class_paths(alloc: Global, root: &str, listed: Vec<String>) -> Result<Vec<FilePath>, Memory>
+/// Those that are used of the paths that were listed under a root.
+fn chosen_paths(
+    alloc: Global,
+    kinds: FileKinds,
+    root: &str,
+    listed: Vec<String>,
+) -> Result<Vec<FilePath>, Memory>
     ensures { IfOk result (λ paths.
-        paths.items ≡ filter (is_class_path_of root.now) (map string_bytes listed.items)) }
+        paths.items ≡ filter (is_used_of kinds root.now) (map string_bytes listed.items)) }
 {
     let mut paths = Vec::with_capacity(alloc, listed.len())?;
     for path in listed {
-        push_class(root, path, &mut paths)?;
+        push_used(kinds, root, path, &mut paths)?;
     }
     Ok(paths)
 }
@@ -98,12 +109,17 @@ fn sort_paths(alloc: Global, mut paths: Vec<FilePath>) -> Result<Vec<FilePath>, 
 
 /// The paths that are used of those that were listed under a root, ordered by their bytes, each
 /// once.
-pub fn used_paths(alloc: Global, root: &str, listed: Vec<String>) -> Result<Vec<FilePath>, Memory>
+pub fn used_paths(
+    alloc: Global,
+    kinds: FileKinds,
+    root: &str,
+    listed: Vec<String>,
+) -> Result<Vec<FilePath>, Memory>
     ensures { IfOk result (λ paths. (held : List File) →
         IsListing held root.now (map string_bytes listed.items)
-        → paths.items ≡ used held root.now) }
+        → paths.items ≡ used kinds held root.now) }
 {
-    let paths = class_paths(alloc, root, listed)?;
+    let paths = chosen_paths(alloc, kinds, root, listed)?;
     sort_paths(alloc, paths)
 }
 
@@ -123,9 +139,14 @@ fn push_places<'a>(
 }
 
 /// Lists a root.
-fn list_root<F: Files>(alloc: Global, root: &str, files: &mut F) -> Result<Vec<FilePath>, Stop>
+fn list_root<F: Files>(
+    alloc: Global,
+    kinds: FileKinds,
+    root: &str,
+    files: &mut F,
+) -> Result<Vec<FilePath>, Stop>
     ensures used { IfOk result (λ paths.
-        IfSome (F.held files.old) (λ held. paths.items ≡ used held root.now)) }
+        IfSome (F.held files.old) (λ held. paths.items ≡ used kinds held root.now)) }
     ensures stops { IfErr result (λ stop. StopsOnly stop (λ path. path ≡ root.now) (λ _. ⊥)) }
     ensures faults { FaultRises result (F.faults files.old) (F.faults files.new) }
     ensures held { F.held files.new ≡ F.held files.old }
@@ -133,7 +154,7 @@ fn list_root<F: Files>(alloc: Global, root: &str, files: &mut F) -> Result<Vec<F
     let path = String::from_str(alloc, root)?;
     match files.list(alloc, root) {
         Ok(listed) => {
-            let paths = used_paths(alloc, root, listed)?;
+            let paths = used_paths(alloc, kinds, root, listed)?;
             Ok(paths)
         }
         Err(CallErr::Failed) => Err(Stop::Fault(path)),
@@ -144,11 +165,12 @@ fn list_root<F: Files>(alloc: Global, root: &str, files: &mut F) -> Result<Vec<F
 /// Lists the roots in their order.
 pub fn list_roots<'a, F: Files>(
     alloc: Global,
+    kinds: FileKinds,
     roots: &[&'a str],
     files: &mut F,
 ) -> Result<Vec<UsedPath<'a>>, Stop>
     ensures used { IfOk result (λ all. IfSome (F.held files.old) (λ held.
-        all.items ≡ flat_map (places held) (map now_of roots.now))) }
+        all.items ≡ flat_map (places kinds held) (map now_of roots.now))) }
     ensures stops { IfErr result (λ stop. StopsOnly stop
         (λ path. Contains (map now_of roots.now) path) (λ _. ⊥)) }
     ensures faults { FaultRises result (F.faults files.old) (F.faults files.new) }
@@ -156,7 +178,7 @@ pub fn list_roots<'a, F: Files>(
 {
     let mut all = Vec::new(alloc);
     for root in roots {
-        let paths = list_root(alloc, root, files)?;
+        let paths = list_root(alloc, kinds, root, files)?;
         push_places(root, paths, &mut all)?;
     }
     Ok(all)

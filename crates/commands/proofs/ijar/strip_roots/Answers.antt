@@ -8,8 +8,8 @@ use Rattle.commands.specs.Outcome.{files_of}
 use Rattle.commands.specs.Phases.{item_phases}
 use Rattle.file_contents.specs.Contents.{items_of}
 use Rattle.file_contents.specs.Valid.{AreValid}
-use Rattle.commands.proofs.Phased.{first_files, none_faults, if_ok_always}
-use Rattle.commands.proofs.Stripped.{phase_of_items}
+use Rattle.used_files.specs.declared.kinds.FileKinds.TheVariants.{ClassesAndModules}
+use Rattle.commands.proofs.Phased.{first_files, phase_of_items, none_faults, if_ok_always}
 use Rattle.commands.proofs.ijar.strip_roots.Goals as goal
 
 pub returns-in_err-items-clause-stops : goal.returns-in_err-items-clause-stops
@@ -22,7 +22,7 @@ returns-in_err-items-clause-stops g c =
     (λ list told. (
       told.0,
       if_some before _ (λ files is.
-          first_files c.args.limits (tree files roots) list told.0
+          first_files c.args.limits item_phases (tree ClassesAndModules files roots) list told.0
           (from_some before _ files told.1 is)),
     ))
     c.in_err-items.ensures.stops)
@@ -42,7 +42,8 @@ returns-clause-fine g c =
     let roots = map now_of c.args.inputs.now in
     IfOk-weaker c.strip_items.result _ _
     (λ list e. if_some before _ (λ files is.
-    phase_of_items c.args.limits (tree files roots) c.in_ok-items.items.items []
+    phase_of_items c.args.limits item_phases (tree ClassesAndModules files roots)
+    c.in_ok-items.items.items []
     (from_some before _ files c.in_ok-items.ensures.fine is)
     (from_some before _ files c.in_ok-items.ensures.items is) e))
     c.strip_items.ensures.fine
@@ -56,7 +57,8 @@ returns-clause-stops g c =
     (λ list told. (
       told.0,
       if_some before _ (λ files is.
-          phase_of_items c.args.limits (tree files roots) c.in_ok-items.items.items list
+          phase_of_items c.args.limits item_phases (tree ClassesAndModules files roots)
+          c.in_ok-items.items.items list
           (from_some before _ files c.in_ok-items.ensures.fine is)
           (from_some before _ files c.in_ok-items.ensures.items is) told.1),
     )) s)
@@ -74,6 +76,6 @@ returns-clause-valid g c =
     let before = g.F.Files.held c.args.files.now in
     let roots = map now_of c.args.inputs.now in
     if_ok_always c.strip_items.result
-    (if_some before (λ held. AreValid (items_of (tree held roots))) (λ files is.
+    (if_some before (λ held. AreValid (items_of (tree ClassesAndModules held roots))) (λ files is.
     subst AreValid (from_some before _ files c.in_ok-items.ensures.items is)
     c.in_ok-items.ensures.valid))

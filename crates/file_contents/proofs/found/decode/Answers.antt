@@ -5,7 +5,7 @@ use Rattle.used_files.specs.Paths.{used_file}
 use Rattle.file_contents.specs.Reading.{Numbered, diag_in}
 use Rattle.file_contents.specs.declared.items.Item.{Item}
 use Rattle.file_contents.proofs.Reading.{decoded_content, decoded_fault}
-use Rattle.file_contents.proofs.Valid.{valid_more}
+use Rattle.file_contents.proofs.Valid.{one_more, valid_more}
 use Rattle.file_contents.proofs.found.decode.Goals as goal
 
 pub returns-in-Ok-clause-decodes : goal.returns-in-Ok-clause-decodes
@@ -36,3 +36,7 @@ pub returns-in-Ok-clause-valid : goal.returns-in-Ok-clause-valid
 returns-in-Ok-clause-valid c =
     valid_more c.args.found.now.items.items _ _ c.in_ok-push-in-Ok.ensures.items
     c.in-Ok.ensures.valid
+
+pub returns-in-Ok-clause-grew : goal.returns-in-Ok-clause-grew
+returns-in-Ok-clause-grew c =
+    one_more c.args.found.now.items.items _ _ c.in_ok-push-in-Ok.ensures.items

@@ -1,9 +1,9 @@
-use Rattle.std.proofs.Common.{◌≡◌, ◌<◌, List, length, map, subst, ◌∙◌, arith}
+use Rattle.std.proofs.Common.{◌≡◌, ◌<◌, List, length, map, subst, ap, ◌∙◌, arith}
 use Rattle.std.specs.Prelude.{Contains}
 use Rattle.std.specs.Vec.Iter.{into_iter_items}
 use Rattle.std.proofs.lemmas.Result.{err_from_is_err_and}
 use Rattle.used_files.specs.Paths.{Place, file_at}
-use Rattle.used_files.proofs.Lists.{IsNext, next_at}
+use Rattle.lemmas.proofs.Iterated.{IsNext, next_at}
 use Rattle.used_files.proofs.Options.{if_some, from_some, stops_weaker}
 use Rattle.file_contents.specs.Found.{IsFound}
 use Rattle.file_contents.proofs.Reading.{contains_path, goes_on, ends_here}
@@ -71,6 +71,7 @@ loop-place-preserved g c =
           (from_some (held c.loop-place.files) _ files c.in_ok-take_file.ensures.takes
           (so_far.held ∙ e)));
       valid = c.in_ok-take_file.ensures.valid so_far.valid;
+      grew = let one = c.in_ok-take_file.ensures.grew in omega (arith, one, so_far.grew);
       faults = c.in_ok-take_file.ensures.faults ∙ so_far.faults;
       held = c.in_ok-take_file.ensures.held ∙ so_far.held;
     }
@@ -78,3 +79,22 @@ loop-place-preserved g c =
 pub returns-then-not-branch-clause-valid : goal.returns-then-not-branch-clause-valid
 returns-then-not-branch-clause-valid g c =
     c.in_ok-take_file.ensures.valid c.loop-place.invariant.valid
+
+pub returns-then-not-branch-clause-few : goal.returns-then-not-branch-clause-few
+returns-then-not-branch-clause-few g c =
+    let held = g.F.Files.held in
+    let all = into_iter_items c.into_iter-place-iterator.result in
+    let at : IsNext all c.loop-place.file c.in-Some.place (into_iter_items c.next.new.self) =
+    next_at all (into_iter_items c.loop-place.place-iterator) (into_iter_items c.next.new.self)
+    c.loop-place.file c.in-Some.place c.loop-place.invariant.rest c.in-Some.ensures.steps.0 in
+    let inside : c.loop-place.file < length all = at.inside in
+    let whole = ap (λ (ps : List Place). length ps)
+    c.into_iter-place-iterator.ensures.into_iter_gives.0 in
+    let one = c.in_ok-take_file.ensures.grew in
+    omega (arith, inside, whole, one, c.loop-place.invariant.grew)
+
+pub returns-clause-few : goal.returns-clause-few
+returns-clause-few g c =
+    let whole = ap (λ (ps : List Place). length ps)
+    c.into_iter-place-iterator.ensures.into_iter_gives.0 in
+    omega (arith, whole, c.loop-place.invariant.within, c.loop-place.invariant.grew)

@@ -18,6 +18,7 @@ invariant-loop-place g l =
       so_far : IfSome (held l.fn.files)
           (λ files. SoFar l.limits (map (file_at files) all) l.file l.found);
       valid : AreValid l.found.items.items;
+      grew : length l.found.items.items ≤ l.file;
       faults : faults l.files ≡ faults l.fn.files;
       held : held l.files ≡ held l.fn.files;
     }

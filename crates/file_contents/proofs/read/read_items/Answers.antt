@@ -1,4 +1,4 @@
-use Rattle.std.proofs.Common.{◌≡◌, ◌≤◌, List, [], length, map, subst}
+use Rattle.std.proofs.Common.{◌≡◌, ◌≤◌, List, [], length, map, subst, arith}
 use Rattle.std.proofs.lemmas.Result.{err_from_is_err_and}
 use Rattle.used_files.specs.Parts.{now_of}
 use Rattle.used_files.specs.Paths.{Place}
@@ -19,7 +19,7 @@ read_files-requires-clause-held g c =
     let listed = c.in_ok-listed.listed.items in
     let uses = c.in_ok-used.used.items in
     let limits = c.args.limits in
-    must_hold before later c.in_ok-listed.ensures.held roots listed uses
+    must_hold c.args.kinds before later c.in_ok-listed.ensures.held roots listed uses
     c.in_ok-listed.ensures.used c.in_ok-used.ensures
 
 pub returns-in_err-check_count-clause-stops : goal.returns-in_err-check_count-clause-stops
@@ -35,7 +35,7 @@ returns-in_err-check_count-clause-stops g c =
     rw (p.1, p.2)
     (stops_weaker c.in_err-check_count.field-0.0 _ _ _ _ (λ path none. absurd none)
     (λ list many. let P : List Place → Type 0 = λ ps. TooMany limits ps list in
-    many_told before later c.in_ok-listed.ensures.held roots listed uses
+    many_told c.args.kinds before later c.in_ok-listed.ensures.held roots listed uses
     c.in_ok-listed.ensures.used c.in_ok-used.ensures limits list
     (subst P c.deref.ensures.value many))
     c.in_err-check_count.ensures.stops)
@@ -52,7 +52,7 @@ returns-in_err-found-clause-stops g c =
     c.from_residual-in_err-found.ensures.1 in
     rw (p.1, p.2)
     (stops_weaker c.in_err-found.field-0.0 _ _ _ _
-    (λ path there. is_use before later c.in_ok-listed.ensures.held roots listed uses
+    (λ path there. is_use c.args.kinds before later c.in_ok-listed.ensures.held roots listed uses
     c.in_ok-listed.ensures.used c.in_ok-used.ensures path there)
     (λ list none. absurd none) c.in_err-found.ensures.stops)
 
@@ -73,7 +73,7 @@ returns-in_err-stop_at-clause-stops g c =
     (stops_weaker c.in_err-stop_at.field-0.0 _ _ _ _ (λ path none. absurd none)
     (λ list told. (
       told.0,
-      with_found before later c.in_ok-listed.ensures.held roots listed uses
+      with_found c.args.kinds before later c.in_ok-listed.ensures.held roots listed uses
           c.in_ok-listed.ensures.used c.in_ok-used.ensures limits found
           (λ files. file_phases limits files ≡ list) few c.in_ok-found.ensures.found
           (λ files few is. told_reading limits files few found is list told.0 told.1),
@@ -97,7 +97,7 @@ returns-in_err-stop_at-2-clause-stops g c =
     (stops_weaker c.in_err-stop_at-2.field-0.0 _ _ _ _ (λ path none. absurd none)
     (λ list told. (
       told.0,
-      with_found before later c.in_ok-listed.ensures.held roots listed uses
+      with_found c.args.kinds before later c.in_ok-listed.ensures.held roots listed uses
           c.in_ok-listed.ensures.used c.in_ok-used.ensures limits found
           (λ files. file_phases limits files ≡ list) few c.in_ok-found.ensures.found
           (λ files few is. told_format limits files few found is c.in_ok-stop_at.ensures.none list
@@ -116,7 +116,7 @@ returns-clause-items g c =
     let P : List Place → Type 0 = λ ps. length ps ≤ limits.files in
     let few = subst P c.deref.ensures.value c.in_ok-check_count.ensures.fine in
     let found = c.in_ok-found.found in
-    with_found before later c.in_ok-listed.ensures.held roots listed uses
+    with_found c.args.kinds before later c.in_ok-listed.ensures.held roots listed uses
     c.in_ok-listed.ensures.used c.in_ok-used.ensures limits found
     (λ files. found.items.items ≡ items_of files) few c.in_ok-found.ensures.found
     (λ files few is. is.items c.in_ok-stop_at.ensures.none)
@@ -132,8 +132,14 @@ returns-clause-fine g c =
     let P : List Place → Type 0 = λ ps. length ps ≤ limits.files in
     let few = subst P c.deref.ensures.value c.in_ok-check_count.ensures.fine in
     let found = c.in_ok-found.found in
-    with_found before later c.in_ok-listed.ensures.held roots listed uses
+    with_found c.args.kinds before later c.in_ok-listed.ensures.held roots listed uses
     c.in_ok-listed.ensures.used c.in_ok-used.ensures limits found
     (λ files. file_phases limits files ≡ []) few c.in_ok-found.ensures.found
     (λ files few is. told_none limits files few found is c.in_ok-stop_at.ensures.none
     c.in_ok-stop_at-2.ensures.none)
+
+pub returns-clause-few : goal.returns-clause-few
+returns-clause-few g c =
+    let P : List Place → Type 0 = λ ps. length ps ≤ c.args.limits.files in
+    let few = subst P c.deref.ensures.value c.in_ok-check_count.ensures.fine in
+    let within = c.in_ok-found.ensures.few in omega (arith, few, within)

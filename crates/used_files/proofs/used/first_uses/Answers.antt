@@ -4,7 +4,8 @@ use Rattle.std.specs.Prelude.{slice_index_or}
 use Rattle.std.specs.Vec.Iter.{into_iter_items}
 use Rattle.std.proofs.lemmas.List.{get_or_default}
 use Rattle.used_files.specs.Paths.{Place, first_use, is_repeated}
-use Rattle.used_files.proofs.Lists.{IsNext, next_at, told_more}
+use Rattle.lemmas.proofs.Iterated.{IsNext, next_at}
+use Rattle.used_files.proofs.Lists.{told_more}
 use Rattle.used_files.proofs.used.first_uses.Goals as goal
 
 pub loop-place-preserved : goal.loop-place-preserved

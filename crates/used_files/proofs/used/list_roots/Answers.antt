@@ -10,8 +10,8 @@ loop-root-preserved g c =
     let so_far = c.loop-root.invariant in
     record {
       used = if_some (held c.args.files.now) _ (λ files e.
-          roots_more files c.args.roots.now c.loop-root.root-index _ c.loop-root.all.items
-          c.push_places.new.all.items c.in_ok-paths.paths.items c.loop-root-test.true
+          roots_more c.args.kinds files c.args.roots.now c.loop-root.root-index _
+          c.loop-root.all.items c.push_places.new.all.items c.in_ok-paths.paths.items c.loop-root-test.true
           (from_some (held c.args.files.now) _ files so_far.used e)
           (from_some (held c.loop-root.files) _ files c.in_ok-paths.ensures.used (so_far.held ∙ e))
           c.in_ok-push_places.ensures);

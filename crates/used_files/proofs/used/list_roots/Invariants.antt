@@ -13,7 +13,7 @@ invariant-loop-root g l =
     record {
       used : IfSome (held l.fn.files)
           (λ files. l.all.items
-          ≡ flat_map (places files) (map now_of (take l.root-index l.roots)));
+          ≡ flat_map (places l.kinds files) (map now_of (take l.root-index l.roots)));
       faults : faults l.files ≡ faults l.fn.files;
       held : held l.files ≡ held l.fn.files;
     }

@@ -10,5 +10,5 @@ pub returns : goal.returns
 returns c =
     IfOk-weaker c.sort_paths.result _ _
     (λ paths e held listing. e ∙ ap (in_order path_order) c.in_ok-paths.ensures
-    ∙ listing_used held c.args.root.now (map string_bytes c.args.listed.items) listing)
+    ∙ listing_used c.args.kinds held c.args.root.now (map string_bytes c.args.listed.items) listing)
     c.sort_paths.ensures
