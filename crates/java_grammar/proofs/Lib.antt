@@ -1,3 +1,4 @@
+pub mod Signs
 pub mod Passing
 pub mod Rows
 pub mod Angles

@@ -6,11 +6,14 @@ use Rattle.std.specs.Prelude.{if◌then◌else◌}
 use Rattle.std.proofs.Math.Seq.{drop-nil}
 use Rattle.std.proofs.Math.Dec.{eqb-suc-zero}
 use Rattle.java_token.specs.declared.token.Token.{Token}
+use Rattle.java_grammar.specs.declared.edge.Edge.{Edge}
+use Rattle.java_grammar.specs.declared.edge.Edge.TheVariants as edge
 use Rattle.java_grammar.specs.Parts.{part_of, parts}
 use Rattle.java_grammar.specs.Tests.{angles}
-use Rattle.java_grammar.specs.Marks.{Mark, Single, Angle, angle_marks, marks_by, token_marks}
-use Rattle.java_grammar.specs.Marks.{marks}
+use Rattle.java_grammar.specs.Marks.{Mark, Single, Angle, Group, Semi, angle_marks, marks_by}
+use Rattle.java_grammar.specs.Marks.{token_marks, marks, edge_marks}
 use Rattle.java_grammar.specs.Reading.{first_angles, is_end, front_part, is_angle, behind_mark}
+use Rattle.java_grammar.specs.Reading.{mark_is_group, is_group, mark_is_semi, is_semi}
 use Rattle.java_grammar.specs.Reading.{NothingRead}
 
 -- ---- the angles of a token
@@ -104,10 +107,6 @@ angle_first (u ∷ ts) t (suc n) taken first some within =
     let r = angle_some n taken (marks ts) k in
     record { more = r.more; behind = r.behind; is = ap (drop taken) (of_angles u ts n e) ∙ r.is }
 
-pub none_first : (ts : List Token) (taken : ℕ) → length ts < 1 → drop taken (marks ts) ≡ []
-none_first [] taken h = drop-nil taken
-none_first (u ∷ ts) taken h = absurd (omega arith)
-
 -- ---- what is read
 
 pub not_angle : (now text : List Mark) (t : Token) → now ≡ Single t ∷ text
@@ -121,18 +120,94 @@ angle_read now text more e = sym (ap (λ x. if is_angle x then behind_mark x els
 pub nothing_read : (now : List Mark) → front_part now ≡ None → NothingRead now now
 nothing_read now e = record { none = e; same = refl }
 
-end_by : (n : ℕ) (u : Token) (ts : List Token) (taken : ℕ) → n ≡ angles (part_of u)
-    → taken ≤ n - 1 → is_end (drop taken (marks (u ∷ ts))) ≡ false
-end_by zero u ts taken e within =
-    let k : taken ≡ 0 = omega arith in
-    ap (λ x. is_end (drop x (marks (u ∷ ts)))) k ∙ ap is_end (of_single u ts e)
-end_by (suc n) u ts taken e within =
-    let k : taken ≤ n = omega arith in
-    ap (λ x. is_end (drop taken x)) (of_angles u ts n e)
-    ∙ ap is_end (angle_some n taken (marks ts) k).is
+-- ---- the end
 
-pub at_end : (ts : List Token) (taken : ℕ) → taken ≤ first_angles (parts ts) - 1
-    → (length ts == 0) ≡ is_end (drop taken (marks ts))
-at_end [] taken within = ap is_end (sym (drop-nil taken))
-at_end (u ∷ ts) taken within = eqb-suc-zero (length ts)
-    ∙ sym (end_by (angles (part_of u)) u ts taken refl within)
+abbrev mark_is_outer : Mark → Bool
+mark_is_outer (Single t) = false
+mark_is_outer (Angle more) = false
+mark_is_outer Group = true
+mark_is_outer Semi = true
+
+-- neither a token nor an angle comes next
+abbrev pub is_outer : List Mark → Bool
+is_outer [] = true
+is_outer (m ∷ text) = mark_is_outer m
+
+pub edge_outer : (e : Edge) → is_outer (edge_marks e) ≡ true
+edge_outer edge.Nothing = refl
+edge_outer edge.Group = refl
+edge_outer edge.Semicolon = refl
+
+pub edge_part : (e : Edge) → front_part (edge_marks e) ≡ None
+edge_part edge.Nothing = refl
+edge_part edge.Group = refl
+edge_part edge.Semicolon = refl
+
+pub edge_angle : (e : Edge) → is_angle (edge_marks e) ≡ false
+edge_angle edge.Nothing = refl
+edge_angle edge.Group = refl
+edge_angle edge.Semicolon = refl
+
+-- what a reader sees behind its last token
+pub last_marks : (ts : List Token) (taken : ℕ) (e : Edge) (now : List Mark) → length ts ≡ 0
+    → drop taken (marks ts) ++ edge_marks e ≡ now → now ≡ edge_marks e
+last_marks [] taken e now h view = sym view ∙ ap (λ l. l ++ edge_marks e) (drop-nil taken)
+last_marks (t ∷ ts) taken e now h view = absurd (omega arith)
+
+-- a token or an angle stands at the front
+pub record Inner (text : List Mark) : Type 0 where
+  pub front : Mark
+  pub behind : List Mark
+  pub is : text ≡ front ∷ behind
+  pub inside : mark_is_outer front ≡ false
+
+inner_by : (n : ℕ) (u : Token) (ts : List Token) (taken : ℕ) → n ≡ angles (part_of u)
+    → taken ≤ n - 1 → Inner (drop taken (marks (u ∷ ts)))
+inner_by zero u ts taken e within =
+    let k : taken ≡ 0 = omega arith in
+    record {
+      front = Single u;
+      behind = marks ts;
+      is = ap (λ x. drop x (marks (u ∷ ts))) k ∙ of_single u ts e;
+      inside = refl;
+    }
+inner_by (suc n) u ts taken e within =
+    let k : taken ≤ n = omega arith in
+    let a = angle_some n taken (marks ts) k in
+    record {
+      front = Angle a.more;
+      behind = a.behind;
+      is = ap (drop taken) (of_angles u ts n e) ∙ a.is;
+      inside = refl;
+    }
+
+-- where a token is left, no end comes next
+pub inner_marks : (ts : List Token) (taken : ℕ) → 1 ≤ length ts
+    → taken ≤ first_angles (parts ts) - 1 → Inner (drop taken (marks ts))
+inner_marks [] taken some within = absurd (omega arith)
+inner_marks (u ∷ ts) taken some within = inner_by (angles (part_of u)) u ts taken refl within
+
+no_end : (m : Mark) → mark_is_outer m ≡ false
+    → (mark_is_group m ≡ false) × (mark_is_semi m ≡ false)
+no_end (Single t) e = (refl, refl)
+no_end (Angle more) e = (refl, refl)
+no_end Group e = absurd cc
+no_end Semi e = absurd cc
+
+-- which end comes next, where a token is left
+pub record NoEnd (now : List Mark) : Type 0 where
+  pub «end» : is_end now ≡ false
+  pub group : is_group now ≡ false
+  pub semi : is_semi now ≡ false
+
+pub no_end_yet : (ts : List Token) (taken : ℕ) (e : Edge) (now : List Mark) → 1 ≤ length ts
+    → taken ≤ first_angles (parts ts) - 1 → drop taken (marks ts) ++ edge_marks e ≡ now → NoEnd now
+no_end_yet ts taken e now some within view =
+    let m = inner_marks ts taken some within in
+    let is = sym view ∙ ap (λ l. l ++ edge_marks e) m.is in
+    let n = no_end m.front m.inside in
+    record {
+      «end» = ap is_end is;
+      group = ap is_group is ∙ n.0;
+      semi = ap is_semi is ∙ n.1;
+    }

@@ -1,20 +1,22 @@
 -- Operators at the front of marks.
 use Rattle.std.proofs.Common.{◌≡◌, refl, sym, ◌∙◌, ap, subst, ℕ, zero, suc, ◌-◌, ◌<◌, ◌≤◌, arith}
 use Rattle.std.proofs.Common.{true, false, List, [], ◌∷◌, ◌++◌, length, take, drop, Some, None}
+use Rattle.std.proofs.Common.{append_assoc}
 use Rattle.std.proofs.lemmas.List.{take_rest}
 use Rattle.java_token.specs.declared.token.Token.{Token}
 use Rattle.java_ast.specs.declared.expression.BinOp.{BinOp}
 use Rattle.java_ast.specs.declared.expression.BinOp.TheVariants as binary
 use Rattle.java_grammar.specs.declared.part.Part.{Part}
 use Rattle.java_grammar.specs.declared.part.Part.TheVariants as part
+use Rattle.java_grammar.specs.declared.edge.Edge.{Edge}
 use Rattle.java_grammar.specs.Parts.{part_of, parts}
 use Rattle.java_grammar.specs.Tests.{operator_angles, angles}
-use Rattle.java_grammar.specs.Marks.{Mark, Single, Angle, angle_marks, marks}
+use Rattle.java_grammar.specs.Marks.{Mark, Single, Angle, angle_marks, marks, edge_marks}
 use Rattle.java_grammar.specs.Words.{Is}
 use Rattle.java_grammar.specs.Expressions.{Operator}
 use Rattle.java_grammar.specs.Reading.{first_angles, binary_of, angle_operator, IsFront}
 use Rattle.java_grammar.specs.Reading.{NoOperator}
-use Rattle.java_grammar.proofs.Marking.{First, of_angles}
+use Rattle.java_grammar.proofs.Marking.{First, of_angles, is_outer, edge_outer}
 
 -- ---- operators that are no angles
 
@@ -124,49 +126,35 @@ no_operator now text t e none_ = record {
   same = refl;
 }
 
-pub no_operator_at_end : (now : List Mark) → now ≡ [] → NoOperator now now
-no_operator_at_end now e = record {
-  none = λ op behind x. empty_front op x.front behind (sym e ∙ x.whole) x.spelled;
+operator_first : (op : BinOp) (front behind : List Mark) → Operator op front
+    → is_outer (front ++ behind) ≡ false
+operator_first binary.Greater front behind x = ap (λ l. is_outer (l ++ behind)) x
+operator_first binary.ShiftRight front behind x = ap (λ l. is_outer (l ++ behind)) x
+operator_first binary.ShiftRightUnsigned front behind x = ap (λ l. is_outer (l ++ behind)) x
+operator_first binary.OrOr front behind x = ap (λ l. is_outer (l ++ behind)) x.whole
+operator_first binary.AndAnd front behind x = ap (λ l. is_outer (l ++ behind)) x.whole
+operator_first binary.Or front behind x = ap (λ l. is_outer (l ++ behind)) x.whole
+operator_first binary.Xor front behind x = ap (λ l. is_outer (l ++ behind)) x.whole
+operator_first binary.And front behind x = ap (λ l. is_outer (l ++ behind)) x.whole
+operator_first binary.Equal front behind x = ap (λ l. is_outer (l ++ behind)) x.whole
+operator_first binary.NotEqual front behind x = ap (λ l. is_outer (l ++ behind)) x.whole
+operator_first binary.Less front behind x = ap (λ l. is_outer (l ++ behind)) x.whole
+operator_first binary.LessEqual front behind x = ap (λ l. is_outer (l ++ behind)) x.whole
+operator_first binary.GreaterEqual front behind x = ap (λ l. is_outer (l ++ behind)) x.whole
+operator_first binary.ShiftLeft front behind x = ap (λ l. is_outer (l ++ behind)) x.whole
+operator_first binary.Plus front behind x = ap (λ l. is_outer (l ++ behind)) x.whole
+operator_first binary.Minus front behind x = ap (λ l. is_outer (l ++ behind)) x.whole
+operator_first binary.Star front behind x = ap (λ l. is_outer (l ++ behind)) x.whole
+operator_first binary.Slash front behind x = ap (λ l. is_outer (l ++ behind)) x.whole
+operator_first binary.Percent front behind x = ap (λ l. is_outer (l ++ behind)) x.whole
+
+pub no_operator_at_end : (now : List Mark) (e : Edge) → now ≡ edge_marks e → NoOperator now now
+no_operator_at_end now e is = record {
+  none = λ op behind x.
+      let f : true ≡ false = sym (ap is_outer is ∙ edge_outer e)
+      ∙ ap is_outer x.whole ∙ operator_first op x.front behind x.spelled in cc;
   same = refl;
 }
-  where
-    not_empty : (m : Mark) (rest front behind : List Mark) → [] ≡ front ++ behind
-        → front ≡ m ∷ rest → ⊥
-    not_empty m rest front behind w e = let f : [] ≡ m ∷ (rest ++ behind) = w
-        ∙ ap (λ l. l ++ behind) e in cc
-
-    empty_front : (op : BinOp) (front behind : List Mark) → [] ≡ front ++ behind
-        → Operator op front → ⊥
-    empty_front binary.Greater front behind w x = not_empty (Angle false) [] front behind w x
-    empty_front binary.ShiftRight front behind w x = not_empty (Angle true)
-        (Angle false ∷ []) front behind w x
-    empty_front binary.ShiftRightUnsigned front behind w x = not_empty (Angle true)
-        (Angle true ∷ Angle false ∷ []) front behind w x
-    empty_front binary.OrOr front behind w x = not_empty (Single x.token) [] front behind w x.whole
-    empty_front binary.AndAnd front behind w x = not_empty
-        (Single x.token) [] front behind w x.whole
-    empty_front binary.Or front behind w x = not_empty (Single x.token) [] front behind w x.whole
-    empty_front binary.Xor front behind w x = not_empty (Single x.token) [] front behind w x.whole
-    empty_front binary.And front behind w x = not_empty (Single x.token) [] front behind w x.whole
-    empty_front binary.Equal front behind w x = not_empty
-        (Single x.token) [] front behind w x.whole
-    empty_front binary.NotEqual front behind w x = not_empty
-        (Single x.token) [] front behind w x.whole
-    empty_front binary.Less front behind w x = not_empty (Single x.token) [] front behind w x.whole
-    empty_front binary.LessEqual front behind w x = not_empty
-        (Single x.token) [] front behind w x.whole
-    empty_front binary.GreaterEqual front behind w x = not_empty
-        (Single x.token) [] front behind w x.whole
-    empty_front binary.ShiftLeft front behind w x = not_empty
-        (Single x.token) [] front behind w x.whole
-    empty_front binary.Plus front behind w x = not_empty (Single x.token) [] front behind w x.whole
-    empty_front binary.Minus front behind w x = not_empty
-        (Single x.token) [] front behind w x.whole
-    empty_front binary.Star front behind w x = not_empty (Single x.token) [] front behind w x.whole
-    empty_front binary.Slash front behind w x = not_empty
-        (Single x.token) [] front behind w x.whole
-    empty_front binary.Percent front behind w x = not_empty
-        (Single x.token) [] front behind w x.whole
 
 operator_part : (p : Part) (op : BinOp) → binary_of p ≡ Some op → p ≡ part.Binary op
 operator_part (part.Binary o) op e = let f : o ≡ op = cc in ap part.Binary f
@@ -211,14 +199,15 @@ angles_spelled (suc zero) h = refl
 angles_spelled (suc (suc zero)) h = refl
 angles_spelled (suc (suc (suc m))) h = absurd (omega arith)
 
-pub operator_of_angles : (ts : List Token) (t : Token) (a taken n : ℕ) (now : List Mark)
+pub operator_of_angles : (ts : List Token) (t : Token) (a taken n : ℕ) (now end : List Mark)
     → First ts t a → 0 < a → taken ≤ first_angles (parts ts) - 1
-    → drop taken (marks ts) ≡ now → n ≡ a - taken
-    → IsFront (Operator (angle_operator n)) now (marks (drop 1 ts))
-operator_of_angles [] t a taken n now first some within view left = absurd
+    → drop taken (marks ts) ++ end ≡ now → n ≡ a - taken
+    → IsFront (Operator (angle_operator n)) now (marks (drop 1 ts) ++ end)
+operator_of_angles [] t a taken n now end first some within view left = absurd
     (omega (arith, first.some))
-operator_of_angles (u ∷ ts) t zero taken n now first some within view left = absurd (omega arith)
-operator_of_angles (u ∷ ts) t (suc k) taken n now first some within view left =
+operator_of_angles (u ∷ ts) t zero taken n now end first some within view left =
+    absurd (omega arith)
+operator_of_angles (u ∷ ts) t (suc k) taken n now end first some within view left =
     let e : suc k ≡ angles (part_of u) = first.counted ∙ ap (λ x. angles (part_of x)) first.is in
     let few = few_angles (part_of u) in
     let inside : taken ≤ k = omega (arith, e) in
@@ -226,16 +215,19 @@ operator_of_angles (u ∷ ts) t (suc k) taken n now first some within view left 
     let count : suc (k - taken) ≡ n = omega (arith, left) in
     record {
       front = angle_marks (k - taken);
-      whole = sym view ∙ ap (drop taken) (of_angles u ts k e) ∙ left_of k taken (marks ts) inside;
+      whole = sym view
+          ∙ ap (λ l. l ++ end) (ap (drop taken) (of_angles u ts k e)
+          ∙ left_of k taken (marks ts) inside)
+          ∙ append_assoc (angle_marks (k - taken)) (marks ts) end;
       spelled = subst (λ m. Operator (angle_operator m) (angle_marks (k - taken))) count
           (angles_spelled (k - taken) small);
     }
 
-pub angles_read : (ts : List Token) (t : Token) (a taken : ℕ) (op : BinOp) (now : List Mark)
-    → First ts t a → 0 < a → taken ≤ first_angles (parts ts) - 1 → drop taken (marks ts) ≡ now
-    → op ≡ angle_operator (a - taken)
-    → IsFront (Operator op) now (marks (take (length ts - 1) (drop 1 ts)))
-angles_read ts t a taken op now first some within view is =
-    let r = operator_of_angles ts t a taken (a - taken) now first some within view refl in
-    let q = subst (λ o. IsFront (Operator o) now (marks (drop 1 ts))) (sym is) r in
-    subst (λ l. IsFront (Operator op) now (marks l)) (sym (take_rest ts 1)) q
+pub angles_read : (ts : List Token) (t : Token) (a taken : ℕ) (op : BinOp) (now end : List Mark)
+    → First ts t a → 0 < a → taken ≤ first_angles (parts ts) - 1
+    → drop taken (marks ts) ++ end ≡ now → op ≡ angle_operator (a - taken)
+    → IsFront (Operator op) now (marks (take (length ts - 1) (drop 1 ts)) ++ end)
+angles_read ts t a taken op now end first some within view is =
+    let r = operator_of_angles ts t a taken (a - taken) now end first some within view refl in
+    let q = subst (λ o. IsFront (Operator o) now (marks (drop 1 ts) ++ end)) (sym is) r in
+    subst (λ l. IsFront (Operator op) now (marks l ++ end)) (sym (take_rest ts 1)) q

@@ -1,5 +1,6 @@
 pub mod Parts
 pub mod Tests
+pub mod Signs
 pub mod Extents
 pub mod Within
 pub mod Counts

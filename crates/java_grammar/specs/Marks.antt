@@ -5,6 +5,8 @@ use Rattle.java_token.specs.declared.token.Token.{Token}
 use Rattle.segments.specs.declared.segment.Segment.{Segment, out-Segment}
 use Rattle.segments.specs.declared.segment.SegEnd.{SegEnd, out-SegEnd}
 use Rattle.segments.specs.declared.segment.SegEnd.TheOpen.{SegEnd-F}
+use Rattle.java_grammar.specs.declared.edge.Edge.{Edge}
+use Rattle.java_grammar.specs.declared.edge.Edge.TheVariants as edge
 use Rattle.java_grammar.specs.Parts.{part_of}
 use Rattle.java_grammar.specs.Tests.{angles}
 
@@ -30,6 +32,12 @@ token_marks token = marks_by (angles (part_of token)) token
 
 abbrev pub marks : List Token → List Mark
 marks tokens = flat_map token_marks tokens
+
+-- what stands behind tokens
+abbrev pub edge_marks : Edge → List Mark
+edge_marks edge.Nothing = []
+edge_marks edge.Group = Group ∷ []
+edge_marks edge.Semicolon = Semi ∷ []
 
 -- what a production gives
 abbrev pub Line : Type 1

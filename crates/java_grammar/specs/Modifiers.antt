@@ -9,6 +9,8 @@ use Rattle.java_ast.specs.declared.modifiers.TheConstants.{PUBLIC, PRIVATE, PROT
 use Rattle.java_ast.specs.declared.modifiers.TheConstants.{FINAL, SYNCHRONIZED, VOLATILE}
 use Rattle.java_ast.specs.declared.modifiers.TheConstants.{TRANSIENT, NATIVE, ABSTRACT}
 use Rattle.java_ast.specs.declared.expression.BinOp.TheVariants as binary
+use Rattle.java_grammar.specs.declared.modifier.Modifier.{Modifier}
+use Rattle.java_grammar.specs.declared.modifier.Modifier.TheVariants as item
 use Rattle.java_grammar.specs.declared.part.Part.TheVariants as part
 use Rattle.java_grammar.specs.declared.part.ModifierWord.{ModifierWord}
 use Rattle.java_grammar.specs.declared.part.ModifierWord.TheVariants as modifier
@@ -16,22 +18,15 @@ use Rattle.java_grammar.specs.Marks.{Mark, Line}
 use Rattle.java_grammar.specs.Words.{◌⨾◌, Row, Is, Word}
 use Rattle.java_grammar.specs.Annotations.{AnnSpells}
 
--- `non-sealed` is three tokens
-pub data Modifier : Type 0 where
-  Annotation : AnnTree → Modifier
-  Keyword : ModifierWord → Modifier
-  Sealed : Modifier
-  NonSealed : Modifier
-
 abbrev pub ModifierLine : Modifier → Line
-ModifierLine (Annotation a) = AnnSpells a
-ModifierLine (Keyword word) = Is (part.Modifier word)
-ModifierLine Sealed = Word (codes "sealed")
-ModifierLine NonSealed = Word (codes "non")
+ModifierLine (item.Annotation a) = AnnSpells a
+ModifierLine (item.Keyword word) = Is (part.Modifier word)
+ModifierLine item.Sealed = Word (codes "sealed")
+ModifierLine item.NonSealed = Word (codes "non")
     ⨾ (Is (part.Binary binary.Minus) ⨾ Word (codes "sealed"))
 
 abbrev pub is_annotation : Modifier → Bool
-is_annotation (Annotation a) = true
+is_annotation (item.Annotation a) = true
 is_annotation _ = false
 
 -- each word stands at most once
@@ -40,9 +35,9 @@ IsEachOnce items = (before between behind : List Modifier) (m : Modifier)
     → items ≡ before ++ m ∷ (between ++ m ∷ behind) → is_annotation m ≡ true
 
 abbrev pub is_access : Modifier → Bool
-is_access (Keyword modifier.Public) = true
-is_access (Keyword modifier.Protected) = true
-is_access (Keyword modifier.Private) = true
+is_access (item.Keyword modifier.Public) = true
+is_access (item.Keyword modifier.Protected) = true
+is_access (item.Keyword modifier.Private) = true
 is_access _ = false
 
 -- the access flags of the words (JVMS 4.1, 4.5, 4.6); `strictfp` has none, nor has `default`
@@ -61,23 +56,23 @@ flag_of modifier.Strictfp = 0
 flag_of modifier.Default = 0
 
 abbrev pub item_flag : Modifier → ℕ
-item_flag (Keyword word) = flag_of word
+item_flag (item.Keyword word) = flag_of word
 item_flag _ = 0
 
 abbrev pub is_default_word : Modifier → Bool
-is_default_word (Keyword modifier.Default) = true
+is_default_word (item.Keyword modifier.Default) = true
 is_default_word _ = false
 
 abbrev pub is_sealed_item : Modifier → Bool
-is_sealed_item Sealed = true
+is_sealed_item item.Sealed = true
 is_sealed_item _ = false
 
 abbrev pub is_non_sealed : Modifier → Bool
-is_non_sealed NonSealed = true
+is_non_sealed item.NonSealed = true
 is_non_sealed _ = false
 
 abbrev pub annotation_of : Modifier → List AnnTree
-annotation_of (Annotation a) = a ∷ []
+annotation_of (item.Annotation a) = a ∷ []
 annotation_of _ = []
 
 -- what modifiers come to

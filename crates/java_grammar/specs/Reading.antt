@@ -39,6 +39,24 @@ abbrev pub is_angle : List Mark → Bool
 is_angle [] = false
 is_angle (m ∷ text) = mark_is_angle m
 
+abbrev pub mark_is_group : Mark → Bool
+mark_is_group Group = true
+mark_is_group _ = false
+
+-- a group in braces that is skipped comes next
+abbrev pub is_group : List Mark → Bool
+is_group [] = false
+is_group (m ∷ text) = mark_is_group m
+
+abbrev pub mark_is_semi : Mark → Bool
+mark_is_semi Semi = true
+mark_is_semi _ = false
+
+-- the `;` that ends a segment comes next
+abbrev pub is_semi : List Mark → Bool
+is_semi [] = false
+is_semi (m ∷ text) = mark_is_semi m
+
 abbrev pub behind_mark : List Mark → List Mark
 behind_mark [] = []
 behind_mark (m ∷ text) = text

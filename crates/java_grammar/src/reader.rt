@@ -1,47 +1,59 @@
 //! Tokens that are read from the front, where `>>` and `>>>` may be read angle by angle.
-ghost use Rattle.std.specs.Prelude.{◌≡◌, ◌≤◌, ◌-◌, drop, if◌then◌else◌, IfSome, IfNone};
+ghost use Rattle.std.specs.Prelude.{◌≡◌, ◌≤◌, ◌-◌, ◌++◌, drop, if◌then◌else◌, IfSome, IfNone};
 ghost use Rattle.java_grammar.specs.Parts.{parts};
-ghost use Rattle.java_grammar.specs.Marks.{marks};
+ghost use Rattle.java_grammar.specs.Marks.{marks, edge_marks};
 ghost use Rattle.java_grammar.specs.Reading.{first_angles, is_end, front_part, is_angle};
+ghost use Rattle.java_grammar.specs.Reading.{is_group, is_semi};
 ghost use Rattle.java_grammar.specs.Reading.{behind_mark, NothingRead, IsRead, angle_operator};
 ghost use Rattle.java_grammar.specs.Reading.{IsFront, NoOperator};
 ghost use Rattle.java_grammar.specs.Expressions.{Operator};
 
+use crate::edge::Edge;
 use crate::part::Part;
 use java_ast::BinOp;
 use java_token::Token;
 use std::marker::Model;
 
-/// The tokens that are still to be read. Contracts see them as marks: each token is one, and each
-/// closing angle of `>`, `>>` and `>>>` is one, so that type arguments may take some angles of a
-/// token and leave the others (JLS 3.5).
+/// The tokens that are still to be read, and what stands behind them. Contracts see them as marks:
+/// each token is one, and each closing angle of `>`, `>>` and `>>>` is one, so that type arguments
+/// may take some angles of a token and leave the others (JLS 3.5).
 #[derive(Drop)]
 pub struct Reader<'a> {
     rest: &'a [Token],
     /// How many angles of the first token are read.
     taken: usize,
+    end: Edge,
 }
 
 impl<'a> Model for Reader<'a> {
-    ghost use Rattle.std.specs.Prelude.{List, drop, ◌≤◌, ◌-◌};
+    ghost use Rattle.std.specs.Prelude.{List, drop, ◌≤◌, ◌-◌, ◌++◌};
     ghost use Rattle.java_grammar.specs.Parts.{parts};
-    ghost use Rattle.java_grammar.specs.Marks.{Mark, marks};
+    ghost use Rattle.java_grammar.specs.Marks.{Mark, marks, edge_marks};
     ghost use Rattle.java_grammar.specs.Reading.{first_angles};
 
     ghost Value = { List Mark };
 
-    ghost view = { λ reader. drop reader.taken (marks reader.rest.now) };
+    ghost view = { λ reader. drop reader.taken (marks reader.rest.now) ++ edge_marks reader.end };
 
     ghost invariant = { λ reader. reader.taken ≤ first_angles (parts reader.rest.now) - 1 };
 }
 
 impl<'a> Reader<'a> {
+    /// A reader of these tokens alone.
     pub fn of(tokens: &'a [Token]) -> Reader<'a>
         ensures { result ≡ marks tokens.now }
+    {
+        Reader::up_to(tokens, Edge::Nothing)
+    }
+
+    /// A reader of these tokens and of what stands behind them.
+    pub fn up_to(tokens: &'a [Token], end: Edge) -> Reader<'a>
+        ensures { result ≡ marks tokens.now ++ edge_marks end }
     {
         Reader {
             rest: tokens,
             taken: 0,
+            end,
         }
     }
 
@@ -52,21 +64,53 @@ impl<'a> Reader<'a> {
         Reader {
             rest: self.rest,
             taken: self.taken,
+            end: self.end,
         }
     }
 
     pub fn is_at_end(&self) -> bool
         ensures { result ≡ is_end self.now }
     {
-        self.rest.is_empty()
+        self.rest.is_empty() && self.end.is_nothing()
     }
 
-    /// The tokens that are left, and how many angles of the first of them are read.
-    pub fn rest(&self) -> (&'a [Token], usize)
-        ensures marks { drop result.1 (marks result.0.now) ≡ self.now }
+    /// The tokens that are left, how many angles of the first of them are read, and what stands
+    /// behind them.
+    pub fn rest(&self) -> (&'a [Token], usize, Edge)
+        ensures marks { drop result.1 (marks result.0.now) ++ edge_marks result.2 ≡ self.now }
         ensures within { result.1 ≤ first_angles (parts result.0.now) - 1 }
     {
-        (self.rest, self.taken)
+        (self.rest, self.taken, self.end)
+    }
+
+    /// Whether a group in braces that is skipped came next; then it is read.
+    pub fn group(&mut self) -> bool
+        ensures is { result ≡ is_group self.old }
+        ensures read { self.new ≡ (if is_group self.old then behind_mark self.old else self.old) }
+    {
+        if !self.rest.is_empty() {
+            return false;
+        }
+        if !self.end.is_group() {
+            return false;
+        }
+        self.end = Edge::Nothing;
+        true
+    }
+
+    /// Whether the `;` that ends a segment came next; then it is read.
+    pub fn semicolon(&mut self) -> bool
+        ensures is { result ≡ is_semi self.old }
+        ensures read { self.new ≡ (if is_semi self.old then behind_mark self.old else self.old) }
+    {
+        if !self.rest.is_empty() {
+            return false;
+        }
+        if !self.end.is_semicolon() {
+            return false;
+        }
+        self.end = Edge::Nothing;
+        true
     }
 
     /// What the next token is; None at a closing angle and at the end.

@@ -33,8 +33,8 @@ use Rattle.java_grammar.specs.Expressions.{conditional, QName, ExprWithin}
 use Rattle.java_grammar.specs.Annotations.{ElemLayer}
 use Rattle.java_grammar.specs.Annotations.{Elements, AnnLine, ElemLine}
 use Rattle.java_grammar.specs.Annotations.{ElemWithin, AnnSpells}
-use Rattle.type_expr_parser.specs.declared.sign.Sign.TheVariants as sign
-use Rattle.type_expr_parser.specs.Signs.{sign_is}
+use Rattle.java_grammar.specs.declared.sign.Sign.TheVariants as sign
+use Rattle.java_grammar.specs.Signs.{sign_is}
 use Rattle.type_expr_parser.specs.Reading.{Read, found, ◌>>=◌, step, front_line}
 use Rattle.type_expr_parser.specs.Reading.{comes_by, comes, sign_at}
 use Rattle.type_expr_parser.specs.Names.{further_word_at, qname_at}

@@ -20,7 +20,7 @@ use Rattle.java_grammar.specs.Expressions.{InParentheses}
 use Rattle.java_grammar.specs.Annotations.{AnnLayer, ArgLayer, ElemLayer, Pair, SoleValue}
 use Rattle.java_grammar.specs.Annotations.{NoElements, Elements, AnnLine, ElemLine}
 use Rattle.java_grammar.specs.Annotations.{ElemWithin, AnnSpells, AnyAnns}
-use Rattle.type_expr_parser.specs.declared.sign.Sign.TheVariants as sign
+use Rattle.java_grammar.specs.declared.sign.Sign.TheVariants as sign
 use Rattle.type_expr_parser.specs.Reading.{Read, found, ◌>>=◌, step, prepended, many}
 use Rattle.type_expr_parser.specs.Reading.{front_line, comes, sign_at, word_at}
 use Rattle.type_expr_parser.specs.Names.{qname_at}

@@ -25,9 +25,9 @@ use Rattle.java_grammar.specs.Annotations.{AnnSpells, AnyAnns}
 use Rattle.java_grammar.specs.Types.{ArgLayer, Dims, is_primitive, Reference, ArgLine}
 use Rattle.java_grammar.specs.Types.{Args, NamedLine}
 use Rattle.java_grammar.specs.Types.{BaseLine, BareLine, TypeWithin}
-use Rattle.type_expr_parser.specs.declared.sign.Sign.{Sign}
-use Rattle.type_expr_parser.specs.declared.sign.Sign.TheVariants as sign
-use Rattle.type_expr_parser.specs.Signs.{sign_is, sign_part}
+use Rattle.java_grammar.specs.declared.sign.Sign.{Sign}
+use Rattle.java_grammar.specs.declared.sign.Sign.TheVariants as sign
+use Rattle.java_grammar.specs.Signs.{sign_is, sign_part}
 use Rattle.type_expr_parser.specs.Reading.{Read, found, ◌>>=◌, step, prepended, many, many_count}
 use Rattle.type_expr_parser.specs.Reading.{comes, sign_at}
 use Rattle.type_expr_parser.specs.Annotations.{annotation_over, annotation_at, behind_annotations}

@@ -24,8 +24,8 @@ use Rattle.java_grammar.specs.Expressions.{conditional, InParentheses}
 use Rattle.java_grammar.specs.Annotations.{ElemLayer, Pair, SoleValue}
 use Rattle.java_grammar.specs.Annotations.{NoElements, InBraces, ElemLine}
 use Rattle.java_grammar.specs.Annotations.{ElemWithin}
-use Rattle.type_expr_parser.specs.declared.sign.Sign.TheVariants as sign
-use Rattle.type_expr_parser.specs.Signs.{sign_is}
+use Rattle.java_grammar.specs.declared.sign.Sign.TheVariants as sign
+use Rattle.java_grammar.specs.Signs.{sign_is}
 use Rattle.type_expr_parser.specs.Reading.{Read, found, ◌>>=◌, step, prepended, many}
 use Rattle.type_expr_parser.specs.Reading.{comes, sign_at}
 use Rattle.type_expr_parser.specs.Annotations.{Values, further_value_over, values_over}

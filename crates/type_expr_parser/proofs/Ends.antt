@@ -27,8 +27,8 @@ use Rattle.java_grammar.specs.Expressions.{TypeLayer, Dot, QName, PlainName, Pla
 use Rattle.java_grammar.specs.Expressions.{LiteralType}
 use Rattle.java_grammar.specs.Expressions.{Operator, Prefix, InParentheses, CastLine, ChainLine}
 use Rattle.java_grammar.specs.Expressions.{NodeLine, ExprWithin, is_sign}
-use Rattle.type_expr_parser.specs.declared.sign.Sign.TheVariants as sign
-use Rattle.type_expr_parser.specs.Signs.{sign_is}
+use Rattle.java_grammar.specs.declared.sign.Sign.TheVariants as sign
+use Rattle.java_grammar.specs.Signs.{sign_is}
 use Rattle.type_expr_parser.specs.Reading.{found, ◌>>=◌, comes_by, alone, operator_at}
 use Rattle.type_expr_parser.specs.Literals.{goes_on}
 use Rattle.type_expr_parser.specs.Levels.{looseness}

@@ -27,9 +27,9 @@ use Rattle.java_grammar.specs.Expressions.{Dot}
 use Rattle.java_grammar.specs.Expressions.{QName, BracketPairs, PlainBase, LiteralType}
 use Rattle.java_grammar.specs.Expressions.{Literal}
 use Rattle.java_grammar.specs.Expressions.{ExprWithin}
-use Rattle.type_expr_parser.specs.declared.sign.Sign.{Sign}
-use Rattle.type_expr_parser.specs.declared.sign.Sign.TheVariants as sign
-use Rattle.type_expr_parser.specs.Signs.{sign_is, sign_part}
+use Rattle.java_grammar.specs.declared.sign.Sign.{Sign}
+use Rattle.java_grammar.specs.declared.sign.Sign.TheVariants as sign
+use Rattle.java_grammar.specs.Signs.{sign_is, sign_part}
 use Rattle.type_expr_parser.specs.Reading.{Read, found, ◌>>=◌, many_count}
 use Rattle.type_expr_parser.specs.Reading.{front_line}
 use Rattle.type_expr_parser.specs.Reading.{comes, sign_at, word_in, word_at}

@@ -30,8 +30,8 @@ use Rattle.java_grammar.specs.Expressions.{conditional, unary_level, operator_le
 use Rattle.java_grammar.specs.Expressions.{Prefix, InParentheses, CastLine}
 use Rattle.java_grammar.specs.Expressions.{LinkLine, NodeLine, level_of}
 use Rattle.java_grammar.specs.Expressions.{ExprWithin, is_sign, begins_with_sign}
-use Rattle.type_expr_parser.specs.declared.sign.Sign.TheVariants as sign
-use Rattle.type_expr_parser.specs.Signs.{sign_is}
+use Rattle.java_grammar.specs.declared.sign.Sign.TheVariants as sign
+use Rattle.java_grammar.specs.Signs.{sign_is}
 use Rattle.type_expr_parser.specs.Reading.{Read, found, ◌>>=◌, many, many_count}
 use Rattle.type_expr_parser.specs.Reading.{front_line}
 use Rattle.type_expr_parser.specs.Reading.{comes_by, comes, sign_at, operator_at}

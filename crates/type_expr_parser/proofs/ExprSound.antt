@@ -28,7 +28,7 @@ use Rattle.java_grammar.specs.Expressions.{conditional, unary_level, primary, op
 use Rattle.java_grammar.specs.Expressions.{TypeLayer, QName, PlainName, CastLine}
 use Rattle.java_grammar.specs.Expressions.{LinkLine, NodeLine, ExprWithin}
 use Rattle.java_grammar.specs.Expressions.{is_sign, begins_with_sign, Unsigned}
-use Rattle.type_expr_parser.specs.declared.sign.Sign.TheVariants as sign
+use Rattle.java_grammar.specs.declared.sign.Sign.TheVariants as sign
 use Rattle.type_expr_parser.specs.Reading.{Read, found, ◌>>=◌, many, token_at, front_line, comes}
 use Rattle.type_expr_parser.specs.Reading.{sign_at}
 use Rattle.type_expr_parser.specs.Reading.{operator_at}

@@ -26,7 +26,7 @@ use Rattle.java_grammar.specs.Expressions.{primary}
 use Rattle.java_grammar.specs.Expressions.{TypeLayer, BracketPairs}
 use Rattle.java_grammar.specs.Expressions.{PlainBase, LiteralType}
 use Rattle.java_grammar.specs.Expressions.{NodeLine, level_of, ExprWithin}
-use Rattle.type_expr_parser.specs.declared.sign.Sign.TheVariants as sign
+use Rattle.java_grammar.specs.declared.sign.Sign.TheVariants as sign
 use Rattle.type_expr_parser.specs.Reading.{Read, found, ◌>>=◌, step, prepended, many, many_count}
 use Rattle.type_expr_parser.specs.Reading.{token_at}
 use Rattle.type_expr_parser.specs.Reading.{front_line, sign_at}

@@ -104,10 +104,11 @@ pub longest_front : {A : Type 0} {read : ℕ → List Mark → Read A} {Spells :
     → read n (marks (take cut tokens)) ≡ found x left
     → ((front : List Mark) → marks (take cut tokens) ≡ front ++ left
     → marks tokens ≡ front ++ behind_front tokens used part)
+    → used ≤ length tokens
     → part ≤ first_angles (parts (drop used tokens)) - 1
     → IsLongest Spells tokens x used part
 longest_front {A} {Spells = Spells} kind n cut used part tokens x left is held fits read place
-    within =
+    counted within =
     let t = kind.takes n (marks (take cut tokens)) x left read in
     let whole = place t.front t.whole in
     let a = marks_within tokens in
@@ -117,6 +118,7 @@ longest_front {A} {Spells = Spells} kind n cut used part tokens x left is held f
       fits = fits;
       front = t.front;
       whole = whole;
+      counted = counted;
       within = within;
       spells = t.spelled;
       alone = λ other y.

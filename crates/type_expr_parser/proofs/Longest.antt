@@ -12,7 +12,7 @@ use Rattle.java_grammar.specs.Words.{Row, Word}
 use Rattle.java_grammar.specs.Reading.{IsFront}
 use Rattle.java_grammar.specs.Expressions.{Dot, QName, InParentheses}
 use Rattle.java_grammar.specs.Annotations.{AnnLayer, Elements, ElemWithin, AnnSpells}
-use Rattle.type_expr_parser.specs.declared.sign.Sign.TheVariants as sign
+use Rattle.java_grammar.specs.declared.sign.Sign.TheVariants as sign
 use Rattle.type_expr_parser.specs.Reading.{Read, found, ◌>>=◌, step, prepended, many, front_line}
 use Rattle.type_expr_parser.specs.Reading.{comes, sign_at}
 use Rattle.type_expr_parser.specs.Names.{further_word_at, qname_at}

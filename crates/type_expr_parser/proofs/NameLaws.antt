@@ -7,7 +7,7 @@ use Rattle.java_grammar.specs.Marks.{Mark, Line}
 use Rattle.java_grammar.specs.Words.{◌⨾◌, Row, Word}
 use Rattle.java_grammar.specs.Expressions.{Dot, QName, PlainName, FurtherWord}
 use Rattle.java_grammar.specs.Reading.{IsFront}
-use Rattle.type_expr_parser.specs.declared.sign.Sign.TheVariants as sign
+use Rattle.java_grammar.specs.declared.sign.Sign.TheVariants as sign
 use Rattle.type_expr_parser.specs.Reading.{◌>>=◌, prepended, many}
 use Rattle.type_expr_parser.specs.Reading.{front_line, comes, sign_at, word_at}
 use Rattle.type_expr_parser.specs.Names.{further_word_at, qname_at, plain_part}

@@ -173,35 +173,38 @@ tail_all tokens cut =
     take_over (length tokens - cut) (drop cut tokens) h
 
 -- the reader's tokens aren't many
-pub few_rest : (tokens rest : List Token) (cut taken : ℕ) (front now : List Mark)
-    → drop taken (marks rest) ≡ now → taken ≤ first_angles (parts rest) - 1
+pub few_rest : (tokens rest : List Token) (cut taken : ℕ) (front end now : List Mark)
+    → drop taken (marks rest) ++ end ≡ now → taken ≤ first_angles (parts rest) - 1
     → marks (take cut tokens) ≡ front ++ now
     → length rest ≤ 3 * length tokens + 2
-few_rest tokens rest cut taken front now e h whole =
+few_rest tokens rest cut taken front end now e h whole =
     let a = ap length whole ∙ length-append front now in
     let b = marks_within (take cut tokens) in
     let c = take_few cut tokens in
-    let d = sym (ap length e) ∙ length-drop taken (marks rest) in
+    let d = sym (ap length e) ∙ length-append (drop taken (marks rest)) end in
+    let i = length-drop taken (marks rest) in
     let f = front_few rest in
     let g = no_fewer rest in
     omega arith
 
-pub whole_front : (tokens rest : List Token) (cut taken all left tail : ℕ) (front now : List Mark)
-    (used part : ℕ)
-    → drop taken (marks rest) ≡ now
+pub whole_front : (tokens rest : List Token) (cut taken all left tail : ℕ)
+    (front end now : List Mark) (used part : ℕ)
+    → drop taken (marks rest) ++ end ≡ now
     → marks (take cut tokens) ≡ front ++ now
     → all ≡ length (marks tokens) → left ≡ length (marks rest)
     → tail ≡ length (marks (drop cut tokens))
-    → behind_front tokens used part ≡ drop (all - ((left - taken) + tail)) (marks tokens)
+    → behind_front tokens used part
+    ≡ drop (all - (((left - taken) + length end) + tail)) (marks tokens)
     → marks tokens ≡ front ++ behind_front tokens used part
-whole_front tokens rest cut taken all left tail front now used part e whole a b c place =
+whole_front tokens rest cut taken all left tail front end now used part e whole a b c place =
     let behind = marks (drop cut tokens) in
     let split : marks tokens ≡ front ++ (now ++ behind) =
     marks_parts cut tokens ∙ ap (λ l. l ++ behind) whole ∙ append_assoc front now behind in
     let sizes = ap length split ∙ length-append front (now ++ behind) in
     let more = length-append now behind in
-    let d = sym (ap length e) ∙ length-drop taken (marks rest) in
-    let count : all - ((left - taken) + tail) ≡ length front = omega arith in
+    let d = sym (ap length e) ∙ length-append (drop taken (marks rest)) end in
+    let i = length-drop taken (marks rest) in
+    let count : all - (((left - taken) + length end) + tail) ≡ length front = omega arith in
     split ∙ ap (λ l. front ++ l) (sym (drop_front front (now ++ behind))
     ∙ ap (drop (length front)) (sym split)
     ∙ ap (λ k. drop k (marks tokens)) (sym count) ∙ sym place)

@@ -19,9 +19,10 @@ use Rattle.java_grammar.specs.Reading.{behind_mark, binary_of, IsFront, NothingR
 use Rattle.java_grammar.specs.Reading.{NoOperator}
 use Rattle.java_grammar.specs.Expressions.{Operator}
 use Rattle.java_grammar.proofs.Operators.{operator_alone}
-use Rattle.type_expr_parser.specs.declared.sign.Sign.{Sign}
-use Rattle.type_expr_parser.specs.declared.sign.Sign.TheVariants as sign
-use Rattle.type_expr_parser.specs.Signs.{sign_is, sign_part}
+use Rattle.java_grammar.specs.declared.sign.Sign.{Sign}
+use Rattle.java_grammar.specs.declared.sign.Sign.TheVariants as sign
+use Rattle.java_grammar.specs.Signs.{sign_is, sign_part}
+use Rattle.java_grammar.proofs.Signs.{sign_exact, sign_true}
 use Rattle.type_expr_parser.specs.Reading.{Read, found, ◌>>=◌, token_at, front_line, comes}
 use Rattle.type_expr_parser.specs.Reading.{sign_at}
 use Rattle.type_expr_parser.specs.Reading.{word_in, word_at, alone, operator_at}
@@ -37,58 +38,6 @@ token_missing (Group ∷ text) after x = refl
 token_missing (Semi ∷ text) after x = refl
 
 -- ---- signs
-
-pub sign_exact : (s : Sign) (p : Part) → sign_is s p ≡ true → p ≡ sign_part s
-sign_exact sign.Dot part.Dot e = refl
-sign_exact sign.Dot _ e = cc
-sign_exact sign.Comma part.Comma e = refl
-sign_exact sign.Comma _ e = cc
-sign_exact sign.At part.At e = refl
-sign_exact sign.At _ e = cc
-sign_exact sign.Assign part.Assign e = refl
-sign_exact sign.Assign _ e = cc
-sign_exact sign.Question part.Question e = refl
-sign_exact sign.Question _ e = cc
-sign_exact sign.Colon part.Colon e = refl
-sign_exact sign.Colon _ e = cc
-sign_exact sign.LeftParenthesis (part.Opening pair.Parentheses) e = refl
-sign_exact sign.LeftParenthesis _ e = cc
-sign_exact sign.RightParenthesis (part.Closing pair.Parentheses) e = refl
-sign_exact sign.RightParenthesis _ e = cc
-sign_exact sign.LeftBracket (part.Opening pair.Brackets) e = refl
-sign_exact sign.LeftBracket _ e = cc
-sign_exact sign.RightBracket (part.Closing pair.Brackets) e = refl
-sign_exact sign.RightBracket _ e = cc
-sign_exact sign.LeftBrace (part.Opening pair.Braces) e = refl
-sign_exact sign.LeftBrace _ e = cc
-sign_exact sign.RightBrace (part.Closing pair.Braces) e = refl
-sign_exact sign.RightBrace _ e = cc
-sign_exact sign.Less (part.Binary binary.Less) e = refl
-sign_exact sign.Less _ e = cc
-sign_exact sign.Class part.Class e = refl
-sign_exact sign.Class _ e = cc
-sign_exact sign.Extends part.Extends e = refl
-sign_exact sign.Extends _ e = cc
-sign_exact sign.Super part.Super e = refl
-sign_exact sign.Super _ e = cc
-
-pub sign_true : (s : Sign) → sign_is s (sign_part s) ≡ true
-sign_true sign.Dot = refl
-sign_true sign.Comma = refl
-sign_true sign.At = refl
-sign_true sign.Assign = refl
-sign_true sign.Question = refl
-sign_true sign.Colon = refl
-sign_true sign.LeftParenthesis = refl
-sign_true sign.RightParenthesis = refl
-sign_true sign.LeftBracket = refl
-sign_true sign.RightBracket = refl
-sign_true sign.LeftBrace = refl
-sign_true sign.RightBrace = refl
-sign_true sign.Less = refl
-sign_true sign.Class = refl
-sign_true sign.Extends = refl
-sign_true sign.Super = refl
 
 pub comes_at : (s : Sign) (t : Token) (left : List Mark) → part_of t ≡ sign_part s
     → comes s (Single t ∷ left) ≡ true

@@ -24,7 +24,7 @@ use Rattle.java_grammar.specs.Annotations.{AnnSpells}
 use Rattle.java_grammar.specs.Types.{Dims}
 use Rattle.java_grammar.specs.Types.{Args, FurtherPart, NamedLine}
 use Rattle.java_grammar.specs.Types.{BaseLine, BareLine, TypeWithin}
-use Rattle.type_expr_parser.specs.declared.sign.Sign.TheVariants as sign
+use Rattle.java_grammar.specs.declared.sign.Sign.TheVariants as sign
 use Rattle.type_expr_parser.specs.Reading.{Read, found, ◌>>=◌, step, prepended, many, many_count}
 use Rattle.type_expr_parser.specs.Reading.{front_line, comes, word_at}
 use Rattle.type_expr_parser.specs.Names.{with_dims}

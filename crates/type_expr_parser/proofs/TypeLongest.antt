@@ -23,7 +23,7 @@ use Rattle.java_grammar.specs.Annotations.{AnnSpells}
 use Rattle.java_grammar.specs.Types.{Args, FurtherPart, may_begin as may_begin_with, NamedLine}
 use Rattle.java_grammar.specs.Types.{is_empty}
 use Rattle.java_grammar.specs.Types.{BaseLine, BareLine, Dims, TypeWithin}
-use Rattle.type_expr_parser.specs.declared.sign.Sign.TheVariants as sign
+use Rattle.java_grammar.specs.declared.sign.Sign.TheVariants as sign
 use Rattle.type_expr_parser.specs.Reading.{Read, found, ◌>>=◌, step, prepended, many, many_count}
 use Rattle.type_expr_parser.specs.Reading.{front_line, comes}
 use Rattle.type_expr_parser.specs.Names.{with_dims}

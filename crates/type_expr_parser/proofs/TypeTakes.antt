@@ -23,8 +23,8 @@ use Rattle.java_grammar.specs.Annotations.{AnyAnns}
 use Rattle.java_grammar.specs.Types.{ArgLayer, Dims, is_primitive, Reference, ArgLine}
 use Rattle.java_grammar.specs.Types.{Args, FurtherPart, may_begin as may_begin_with}
 use Rattle.java_grammar.specs.Types.{BaseLine, BareLine, TypeWithin, TypeSpells}
-use Rattle.type_expr_parser.specs.declared.sign.Sign.TheVariants as sign
-use Rattle.type_expr_parser.specs.Signs.{sign_part}
+use Rattle.java_grammar.specs.declared.sign.Sign.TheVariants as sign
+use Rattle.java_grammar.specs.Signs.{sign_part}
 use Rattle.type_expr_parser.specs.Reading.{Read, found, ◌>>=◌, step, prepended, many, many_count}
 use Rattle.type_expr_parser.specs.Reading.{token_at, front_line, comes, sign_at, word_at}
 use Rattle.type_expr_parser.specs.Names.{with_dims}

@@ -8,7 +8,7 @@ use Rattle.java_ast.specs.declared.annotation.ElemTree.TheVariants as element
 use Rattle.java_ast.specs.declared.annotation.ElemTree.TheViews.{roll-AnnTree, roll-ElemArg}
 use Rattle.java_grammar.specs.Marks.{Mark}
 use Rattle.java_grammar.specs.Reading.{front_part, behind_mark}
-use Rattle.type_expr_parser.specs.declared.sign.Sign.TheVariants as sign
+use Rattle.java_grammar.specs.declared.sign.Sign.TheVariants as sign
 use Rattle.type_expr_parser.specs.Reading.{Read, ◌>>=◌, step, many, prepended, behind_many}
 use Rattle.type_expr_parser.specs.Reading.{front_line, comes, sign_at, word_at}
 use Rattle.type_expr_parser.specs.Names.{qname_at}

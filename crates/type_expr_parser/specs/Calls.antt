@@ -38,12 +38,14 @@ abbrev pub behind_front : List Token → ℕ → ℕ → List Mark
 behind_front tokens used part = drop part (marks (drop used tokens))
 
 -- the tokens pass no count, and of their fronts that spell something this is the longest, with
--- this tree and no other; angles are left of the next token
+-- this tree and no other. It has so many of the tokens, and angles of the next, but never all of
+-- that one's: so one front has one pair of numbers
 pub record IsLongest {A : Type 0} (Spells : A → List Mark → Type 0) (tokens : List Token)
     (tree : A) (used part : ℕ) : Type 0 where
   pub fits : tokens_fit (parts tokens) ≡ true
   pub front : List Mark
   pub whole : marks tokens ≡ front ++ behind_front tokens used part
+  pub counted : used ≤ length tokens
   pub within : part ≤ first_angles (parts (drop used tokens)) - 1
   pub spells : Spells tree front
   pub alone : (other : A) → Spells other front → other ≡ tree

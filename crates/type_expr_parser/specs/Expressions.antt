@@ -17,7 +17,7 @@ use Rattle.java_grammar.specs.Marks.{Mark}
 use Rattle.java_grammar.specs.Reading.{front_part, behind_mark}
 use Rattle.java_grammar.specs.Tests.{is_word}
 use Rattle.type_expr_parser.specs.declared.looseness.TheConstants.{LOOSEST}
-use Rattle.type_expr_parser.specs.declared.sign.Sign.TheVariants as sign
+use Rattle.java_grammar.specs.declared.sign.Sign.TheVariants as sign
 use Rattle.type_expr_parser.specs.Reading.{Read, ◌>>=◌, many, token_at, comes, sign_at}
 use Rattle.type_expr_parser.specs.Reading.{front_line, operator_at}
 use Rattle.type_expr_parser.specs.Names.{plain_type}

@@ -1,12 +1,11 @@
 -- Behind what marks nothing goes on: what may follow an expression, an annotation or a type so
--- that
--- it ends there.
+-- that it ends there.
 use Rattle.std.specs.Prelude.{◌≡◌, ℕ, ◌<◌, false, List, Some, None}
 use Rattle.java_ast.specs.declared.expression.BinOp.{BinOp}
 use Rattle.java_grammar.specs.Marks.{Mark}
 use Rattle.java_grammar.specs.Reading.{front_part}
 use Rattle.type_expr_parser.specs.declared.looseness.TheConstants.{LOOSEST}
-use Rattle.type_expr_parser.specs.declared.sign.Sign.TheVariants as sign
+use Rattle.java_grammar.specs.declared.sign.Sign.TheVariants as sign
 use Rattle.type_expr_parser.specs.Reading.{comes, operator_at}
 use Rattle.type_expr_parser.specs.Names.{further_word_at}
 use Rattle.type_expr_parser.specs.Literals.{goes_on}

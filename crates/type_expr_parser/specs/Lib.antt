@@ -1,4 +1,3 @@
-pub mod Signs
 pub mod Reading
 pub mod Names
 pub mod Literals

@@ -13,7 +13,7 @@ use Rattle.java_ast.specs.declared.expression.Lit.{Lit}
 use Rattle.java_ast.specs.declared.expression.Lit.TheVariants as literal
 use Rattle.java_grammar.specs.Marks.{Mark}
 use Rattle.java_grammar.specs.Expressions.{literal_of}
-use Rattle.type_expr_parser.specs.declared.sign.Sign.TheVariants as sign
+use Rattle.java_grammar.specs.declared.sign.Sign.TheVariants as sign
 use Rattle.type_expr_parser.specs.Reading.{Read, ◌>>=◌, many_count, token_at, front_line, comes}
 use Rattle.type_expr_parser.specs.Reading.{sign_at}
 use Rattle.type_expr_parser.specs.Names.{qname_at, bracket_pair_at, plain_type, with_dims}

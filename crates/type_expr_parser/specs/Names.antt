@@ -5,7 +5,7 @@ use Rattle.java_ast.specs.declared.types.TypeTree.TheVariants as tree
 use Rattle.java_ast.specs.declared.types.NamePart.{NamePart}
 use Rattle.java_ast.specs.declared.types.ArgTree.TheViews.{roll-NamePart}
 use Rattle.java_grammar.specs.Marks.{Mark}
-use Rattle.type_expr_parser.specs.declared.sign.Sign.TheVariants as sign
+use Rattle.java_grammar.specs.declared.sign.Sign.TheVariants as sign
 use Rattle.type_expr_parser.specs.Reading.{Read, ◌>>=◌, many, prepended, sign_at, word_at}
 
 unfoldable pub further_word_at : List Mark → Read (List ℕ)

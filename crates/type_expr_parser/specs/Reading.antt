@@ -14,8 +14,8 @@ use Rattle.java_grammar.specs.Marks.{Mark, Single, Angle, Group, Semi}
 use Rattle.java_grammar.specs.Reading.{front_part, binary_of}
 use Rattle.type_expr_parser.specs.declared.error.Unread.{Unread}
 use Rattle.type_expr_parser.specs.declared.error.Unread.TheVariants as unread
-use Rattle.type_expr_parser.specs.declared.sign.Sign.{Sign}
-use Rattle.type_expr_parser.specs.Signs.{sign_is}
+use Rattle.java_grammar.specs.declared.sign.Sign.{Sign}
+use Rattle.java_grammar.specs.Signs.{sign_is}
 
 abbrev pub Read : Type 0 → Type 0
 Read A = Option (A × List Mark)

@@ -13,7 +13,7 @@ use Rattle.java_grammar.specs.declared.part.Part.TheVariants as part
 use Rattle.java_grammar.specs.Marks.{Mark}
 use Rattle.java_grammar.specs.Reading.{front_part, is_angle, behind_mark}
 use Rattle.java_grammar.specs.Types.{may_begin as may_begin_with, is_primitive}
-use Rattle.type_expr_parser.specs.declared.sign.Sign.TheVariants as sign
+use Rattle.java_grammar.specs.declared.sign.Sign.TheVariants as sign
 use Rattle.type_expr_parser.specs.Reading.{Read, ◌>>=◌, step, many, prepended, many_count}
 use Rattle.type_expr_parser.specs.Reading.{token_at, front_line, comes, sign_at, word_at}
 use Rattle.type_expr_parser.specs.Names.{with_dims}

@@ -11,11 +11,10 @@ ghost use Rattle.type_expr_parser.specs.Annotations.{pairs_over, annotation_at, 
 use crate::error::Unread;
 use crate::expression::conditional;
 use crate::name::qualified_name;
-use crate::sign::Sign;
 use crate::tokens::{comes, front_line, passes, sign, word};
 use hdr_core::{List, Text};
 use java_ast::{AnnTree, ElemArg, ElemTree};
-use java_grammar::{Part, Reader};
+use java_grammar::{Part, Reader, Sign};
 use std::alloc::Global;
 
 /// The element of a sole value without a name (JLS 9.7.3).
@@ -24,7 +23,7 @@ const SOLE_ELEMENT: &[u8] = b"value";
 /// A value of an element, in which at most `depth` stand in each other.
 #[cycle(values)]
 #[tactic(auto, unfolding(crate::specs::Annotations::value_at))]
-fn value(alloc: Global, reader: &mut Reader<'_>, depth: u32) -> Result<ElemTree, Unread>
+pub fn value(alloc: Global, reader: &mut Reader<'_>, depth: u32) -> Result<ElemTree, Unread>
     ensures { Gives (λ value. value) result reader.new (value_at depth reader.old) }
 {
     if depth == 0 {

@@ -15,11 +15,10 @@ use crate::error::Unread;
 use crate::literal::{literal, named, primitive_class, void_class};
 use crate::looseness::{LOOSEST, looseness, prefix_operator};
 use crate::name::plain_type;
-use crate::sign::Sign;
 use crate::tokens::{comes, front_line, operator, sign, token};
 use hdr_core::List;
 use java_ast::{Expr, Link, Primitive, TypeTree, UnOp};
-use java_grammar::{Pair, Part, Reader};
+use java_grammar::{Pair, Part, Reader, Sign};
 use sqlite_items::Boxed;
 use std::alloc::Global;
 

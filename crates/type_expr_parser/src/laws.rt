@@ -1,6 +1,7 @@
 //! Laws of the readers: what is read is what is spelled.
 ghost use Rattle.type_expr_parser.specs.Laws.{ExpressionsAreRead, AnnotationsAreRead};
-ghost use Rattle.type_expr_parser.specs.Laws.{TypesAreRead};
+ghost use Rattle.type_expr_parser.specs.Laws.{TypesAreRead, BareTypesAreRead};
+ghost use Rattle.type_expr_parser.specs.Laws.{DimensionsAreRead, ValuesAreRead};
 
 /// Expressions are read as they are spelled (JLS 15.29, 15.8.2), where no operator, operand,
 /// bracket, dot or `?` goes on with them.
@@ -17,4 +18,20 @@ pub fn annotations_are_read()
 /// further part and no dimension follows.
 pub fn types_are_read()
     ensures { TypesAreRead }
+{}
+
+/// Types without annotations before them are read as they are spelled, where the same holds.
+pub fn bare_types_are_read()
+    ensures { BareTypesAreRead }
+{}
+
+/// Dimensions are read as they are spelled (JLS 10.2), where no further one follows.
+pub fn dimensions_are_read()
+    ensures { DimensionsAreRead }
+{}
+
+/// Values of elements are read as they are spelled (JLS 9.7.1), where nothing goes on with an
+/// expression.
+pub fn values_are_read()
+    ensures { ValuesAreRead }
 {}

@@ -8,11 +8,10 @@ ghost use Rattle.type_expr_parser.specs.Literals.{behind_name as behind_name_at}
 
 use crate::error::Unread;
 use crate::name::{bracket_pairs, plain_type, qualified_name, with_dims};
-use crate::sign::Sign;
 use crate::tokens::{comes, front_line, sign, token};
 use hdr_core::{List, Text};
 use java_ast::{Expr, Lit, Primitive, TypeTree};
-use java_grammar::Reader;
+use java_grammar::{Reader, Sign};
 use java_token::{Kw, LexLit, TokenKind};
 use std::alloc::Global;
 

@@ -6,11 +6,10 @@ ghost use Rattle.type_expr_parser.specs.Names.{plain_type as plain_type_of};
 ghost use Rattle.type_expr_parser.specs.Names.{with_dims as with_dims_of};
 
 use crate::error::Unread;
-use crate::sign::Sign;
 use crate::tokens::{sign, word};
 use hdr_core::{List, Text};
 use java_ast::{NamePart, TypeTree};
-use java_grammar::Reader;
+use java_grammar::{Reader, Sign};
 use sqlite_items::Boxed;
 use std::alloc::Global;
 

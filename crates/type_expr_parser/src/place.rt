@@ -77,6 +77,7 @@ fn place_behind(tokens: &[Token], count: usize) -> (u32, u32)
     requires few { length tokens.now < 2 ^ 30 }
     requires within { count ≤ length (marks tokens.now) }
     ensures behind { behind_front tokens.now result.0 result.1 ≡ drop count (marks tokens.now) }
+    ensures counted { result.0 ≤ length tokens.now }
     ensures angles { result.1 ≤ first_angles (parts (drop result.0 tokens.now)) - 1 }
 {
     let mut left = count;
@@ -96,12 +97,14 @@ pub fn place(tokens: &[Token], cut: usize, reader: &Reader<'_>) -> (u32, u32)
     requires cut { cut ≤ length tokens.now }
     ensures whole { (front : List Mark) → marks (take cut tokens.now) ≡ front ++ reader.now
         → marks tokens.now ≡ front ++ behind_front tokens.now result.0 result.1 }
+    ensures counted { result.0 ≤ length tokens.now }
     ensures angles { result.1 ≤ first_angles (parts (drop result.0 tokens.now)) - 1 }
 {
-    let (rest, taken) = reader.rest();
+    let (rest, taken, end) = reader.rest();
     if rest.len() > 3 * tokens.len() + 2 {
         return place_behind(tokens, 0);
     }
-    let after = marks_of(rest).saturating_sub(taken) + marks_of(&tokens[cut..]);
+    let left = marks_of(rest).saturating_sub(taken) + end.marks();
+    let after = left + marks_of(&tokens[cut..]);
     place_behind(tokens, marks_of(tokens).saturating_sub(after))
 }

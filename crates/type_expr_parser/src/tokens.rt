@@ -5,10 +5,9 @@ ghost use Rattle.type_expr_parser.specs.Reading.{Gives, token_at, front_line, co
 ghost use Rattle.type_expr_parser.specs.Reading.{sign_at, word_at, operator_at};
 
 use crate::error::Unread;
-use crate::sign::Sign;
 use hdr_core::Text;
 use java_ast::BinOp;
-use java_grammar::Reader;
+use java_grammar::{Reader, Sign};
 use java_token::{Token, TokenKind};
 use std::alloc::Global;
 

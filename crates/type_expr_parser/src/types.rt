@@ -12,11 +12,10 @@ ghost use Rattle.type_expr_parser.specs.Types.{arg_list_over, wildcard_over, ref
 use crate::annotation::pass_annotations;
 use crate::error::Unread;
 use crate::name::with_dims;
-use crate::sign::Sign;
 use crate::tokens::{comes, front_line, passes, sign, token, word};
 use hdr_core::List;
 use java_ast::{ArgTree, NamePart, Primitive, TypeTree};
-use java_grammar::{Part, Reader};
+use java_grammar::{Part, Reader, Sign};
 use std::alloc::Global;
 
 /// The word that begins a type only before a further word (JLS 3.9).

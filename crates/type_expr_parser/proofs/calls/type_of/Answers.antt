@@ -16,7 +16,7 @@ returns-in-Ok c =
     longest_front type_kind c.deepest.result c.paired-cut.result c.place-used.result.0
     c.place-used.result.1 c.args.tokens.now c.in-Ok.tree c.any_type.new.reader
     c.deepest.ensures c.paired-cut.ensures.held fits read c.place-used.ensures.whole
-    c.place-used.ensures.angles
+    c.place-used.ensures.counted c.place-used.ensures.angles
 
 pub returns-in-Err-NotSpelled : goal.returns-in-Err-NotSpelled
 returns-in-Err-NotSpelled c =

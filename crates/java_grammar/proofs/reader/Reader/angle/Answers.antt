@@ -1,6 +1,6 @@
-use Rattle.std.proofs.Common.{◌≡◌, sym, ◌∙◌, ap, ◌+◌, arith}
+use Rattle.std.proofs.Common.{◌≡◌, sym, ◌∙◌, ap, ◌+◌, ◌++◌, arith}
 use Rattle.std.proofs.lemmas.List.{take_rest}
-use Rattle.java_grammar.specs.Marks.{marks}
+use Rattle.java_grammar.specs.Marks.{marks, edge_marks}
 use Rattle.java_grammar.specs.Tests.{angles}
 use Rattle.java_grammar.specs.Reading.{is_angle}
 use Rattle.java_grammar.proofs.Marking.{First, single_first, more_first, last_first, first_is}
@@ -15,8 +15,9 @@ returns-then-angles-eq0-clause-is c =
       counted = c.angles-angles.ensures ∙ ap angles c.of.ensures;
     } in
     sym (ap is_angle (sym c.self.view_is
-    ∙ single_first c.self.inside.rest.now _ _ c.self.inside.taken first c.if-angles-eq0.true
-    c.self.invariant))
+    ∙ ap (λ l. l ++ edge_marks c.self.inside.end)
+    (single_first c.self.inside.rest.now _ _ c.self.inside.taken first c.if-angles-eq0.true
+    c.self.invariant)))
 
 pub returns-then-angles-eq0-clause-read : goal.returns-then-angles-eq0-clause-read
 returns-then-angles-eq0-clause-read c =
@@ -26,8 +27,9 @@ returns-then-angles-eq0-clause-read c =
       counted = c.angles-angles.ensures ∙ ap angles c.of.ensures;
     } in
     not_angle _ _ _ (sym c.self.view_is
-    ∙ single_first c.self.inside.rest.now _ _ c.self.inside.taken first c.if-angles-eq0.true
-    c.self.invariant)
+    ∙ ap (λ l. l ++ edge_marks c.self.inside.end)
+    (single_first c.self.inside.rest.now _ _ c.self.inside.taken first c.if-angles-eq0.true
+    c.self.invariant))
 
 pub returns-then-self-angles-clause-is : goal.returns-then-self-angles-clause-is
 returns-then-self-angles-clause-is c =
@@ -37,7 +39,8 @@ returns-then-self-angles-clause-is c =
       counted = c.angles-angles.ensures ∙ ap angles c.of.ensures;
     } in
     sym (ap is_angle (sym c.self.view_is
-    ∙ more_first c.self.inside.rest.now _ _ c.self.inside.taken first c.if-self-angles.true))
+    ∙ ap (λ l. l ++ edge_marks c.self.inside.end)
+    (more_first c.self.inside.rest.now _ _ c.self.inside.taken first c.if-self-angles.true)))
 
 pub returns-then-self-angles-clause-read : goal.returns-then-self-angles-clause-read
 returns-then-self-angles-clause-read c =
@@ -47,7 +50,8 @@ returns-then-self-angles-clause-read c =
       counted = c.angles-angles.ensures ∙ ap angles c.of.ensures;
     } in
     angle_read _ _ _ (sym c.self.view_is
-    ∙ more_first c.self.inside.rest.now _ _ c.self.inside.taken first c.if-self-angles.true)
+    ∙ ap (λ l. l ++ edge_marks c.self.inside.end)
+    (more_first c.self.inside.rest.now _ _ c.self.inside.taken first c.if-self-angles.true))
 
 pub returns-else-self-angles-clause-is : goal.returns-else-self-angles-clause-is
 returns-else-self-angles-clause-is c =
@@ -58,7 +62,8 @@ returns-else-self-angles-clause-is c =
     } in
     let last : c.self.inside.taken + 1 ≡ c.angles-angles.result = omega (arith, first_is first) in
     sym (ap is_angle (sym c.self.view_is
-    ∙ last_first c.self.inside.rest.now _ _ c.self.inside.taken first last))
+    ∙ ap (λ l. l ++ edge_marks c.self.inside.end)
+    (last_first c.self.inside.rest.now _ _ c.self.inside.taken first last)))
 
 pub returns-else-self-angles-clause-read : goal.returns-else-self-angles-clause-read
 returns-else-self-angles-clause-read c =
@@ -68,6 +73,7 @@ returns-else-self-angles-clause-read c =
       counted = c.angles-angles.ensures ∙ ap angles c.of.ensures;
     } in
     let last : c.self.inside.taken + 1 ≡ c.angles-angles.result = omega (arith, first_is first) in
-    ap marks (take_rest c.self.inside.rest.now 1)
+    ap (λ ts. marks ts ++ edge_marks c.self.inside.end) (take_rest c.self.inside.rest.now 1)
     ∙ angle_read _ _ _ (sym c.self.view_is
-    ∙ last_first c.self.inside.rest.now _ _ c.self.inside.taken first last)
+    ∙ ap (λ l. l ++ edge_marks c.self.inside.end)
+    (last_first c.self.inside.rest.now _ _ c.self.inside.taken first last))

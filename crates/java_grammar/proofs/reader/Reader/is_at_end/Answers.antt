@@ -1,7 +1,10 @@
-use Rattle.std.proofs.Common.{◌∙◌, ap}
-use Rattle.java_grammar.specs.Reading.{is_end}
-use Rattle.java_grammar.proofs.Marking.{at_end}
+use Rattle.std.proofs.Common.{◌≡◌, ◌≤◌, ◌∙◌, sym, length, false, rules}
+use Rattle.java_grammar.proofs.Marking.{no_end_yet}
 use Rattle.java_grammar.proofs.reader.Reader.is_at_end.Goals as goal
 
-pub returns : goal.returns
-returns c = c.is_empty.ensures ∙ at_end _ _ c.self.invariant ∙ ap is_end c.self.view_is
+pub returns-else-is_empty : goal.returns-else-is_empty
+returns-else-is_empty c =
+    let some : 1 ≤ length c.self.inside.rest.now = search rules in
+    let more : c.is_empty.result ≡ false = search rules in
+    more ∙ sym (no_end_yet c.self.inside.rest.now c.self.inside.taken c.self.inside.end
+    c.args.self.now some c.self.invariant c.self.view_is).end

@@ -1,7 +1,7 @@
-use Rattle.std.proofs.Common.{◌≡◌, sym, ◌∙◌, ap, ◌∷◌, Some, None, arith}
+use Rattle.std.proofs.Common.{◌≡◌, sym, ◌∙◌, ap, ◌∷◌, ◌++◌, Some, None, arith}
 use Rattle.std.proofs.lemmas.List.{take_rest}
 use Rattle.java_grammar.specs.Parts.{part_of}
-use Rattle.java_grammar.specs.Marks.{Single, marks}
+use Rattle.java_grammar.specs.Marks.{Single, marks, edge_marks}
 use Rattle.java_grammar.specs.Tests.{angles}
 use Rattle.java_grammar.specs.Reading.{binary_of}
 use Rattle.java_grammar.proofs.Marking.{First, single_first}
@@ -15,7 +15,7 @@ returns-then-angles-gt0-clause-read c =
       is = c.first-item.is;
       counted = c.angles-angles.ensures ∙ ap angles c.of-part.ensures;
     } in
-    angles_read c.self.inside.rest.now _ _ c.self.inside.taken _ _ first (omega arith)
+    angles_read c.self.inside.rest.now _ _ c.self.inside.taken _ _ _ first (omega arith)
     c.self.invariant c.self.view_is c.angle_operator-operator.ensures
 
 pub returns-in-Some-clause-read : goal.returns-in-Some-clause-read
@@ -30,9 +30,11 @@ returns-in-Some-clause-read c =
     ap binary_of (sym c.of-part.ensures) ∙ sym c.binary.ensures ∙ c.in-Some.is in
     operator_alone _ _ _ _
     (sym c.self.view_is
-    ∙ single_first c.self.inside.rest.now _ _ c.self.inside.taken first
-    (omega arith) c.self.invariant
-    ∙ ap (λ x. Single c.first-item.result ∷ marks x) (sym (take_rest c.self.inside.rest.now 1)))
+    ∙ ap (λ l. l ++ edge_marks c.self.inside.end)
+    (single_first c.self.inside.rest.now _ _ c.self.inside.taken first (omega arith)
+    c.self.invariant)
+    ∙ ap (λ x. Single c.first-item.result ∷ (marks x ++ edge_marks c.self.inside.end))
+    (sym (take_rest c.self.inside.rest.now 1)))
     is none
 
 pub returns-in-None-clause-none : goal.returns-in-None-clause-none
@@ -46,6 +48,7 @@ returns-in-None-clause-none c =
     ap binary_of (sym c.of-part.ensures) ∙ sym c.binary.ensures ∙ c.in-None.is in
     no_operator _ _ _
     (sym c.self.view_is
-    ∙ single_first c.self.inside.rest.now _ _ c.self.inside.taken first
-    (omega arith) c.self.invariant)
+    ∙ ap (λ l. l ++ edge_marks c.self.inside.end)
+    (single_first c.self.inside.rest.now _ _ c.self.inside.taken first (omega arith)
+    c.self.invariant))
     is

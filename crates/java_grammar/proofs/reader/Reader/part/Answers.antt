@@ -1,4 +1,5 @@
-use Rattle.std.proofs.Common.{sym, ◌∙◌, ap, arith, Some}
+use Rattle.std.proofs.Common.{sym, ◌∙◌, ap, ◌++◌, arith, Some}
+use Rattle.java_grammar.specs.Marks.{edge_marks}
 use Rattle.java_grammar.specs.Tests.{angles}
 use Rattle.java_grammar.specs.Reading.{front_part}
 use Rattle.java_grammar.proofs.Marking.{First, single_first, angle_first}
@@ -14,8 +15,9 @@ returns-then-angles-eq0 c =
     } in
     ap Some c.of-part.ensures
     ∙ sym (ap front_part (sym c.self.view_is
-    ∙ single_first c.self.inside.rest.now _ _ c.self.inside.taken first c.if-angles-eq0.true
-    c.self.invariant))
+    ∙ ap (λ l. l ++ edge_marks c.self.inside.end)
+    (single_first c.self.inside.rest.now _ _ c.self.inside.taken first c.if-angles-eq0.true
+    c.self.invariant)))
 
 pub returns-else-angles-eq0 : goal.returns-else-angles-eq0
 returns-else-angles-eq0 c =
@@ -27,4 +29,4 @@ returns-else-angles-eq0 c =
     } in
     let r = angle_first c.self.inside.rest.now _ _ c.self.inside.taken first
     (omega arith) c.self.invariant in
-    sym (ap front_part (sym c.self.view_is ∙ r.is))
+    sym (ap front_part (sym c.self.view_is ∙ ap (λ l. l ++ edge_marks c.self.inside.end) r.is))

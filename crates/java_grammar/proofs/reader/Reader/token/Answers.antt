@@ -1,6 +1,6 @@
-use Rattle.std.proofs.Common.{sym, ◌∙◌, ap, ◌∷◌, arith}
+use Rattle.std.proofs.Common.{sym, ◌∙◌, ap, ◌∷◌, ◌++◌, arith}
 use Rattle.std.proofs.lemmas.List.{take_rest}
-use Rattle.java_grammar.specs.Marks.{Single, marks}
+use Rattle.java_grammar.specs.Marks.{Single, marks, edge_marks}
 use Rattle.java_grammar.specs.Tests.{angles}
 use Rattle.java_grammar.specs.Reading.{front_part}
 use Rattle.java_grammar.proofs.Marking.{First, single_first, angle_first, nothing_read}
@@ -16,7 +16,7 @@ returns-then-angles-gt0-clause-none c =
     } in
     let r = angle_first c.self.inside.rest.now _ _ c.self.inside.taken first
     (omega arith) c.self.invariant in
-    nothing_read _ (ap front_part (sym c.self.view_is ∙ r.is))
+    nothing_read _ (ap front_part (sym c.self.view_is ∙ ap (λ l. l ++ edge_marks c.self.inside.end) r.is))
 
 pub returns-clause-read : goal.returns-clause-read
 returns-clause-read c =
@@ -26,6 +26,9 @@ returns-clause-read c =
       counted = c.angles.ensures
           ∙ ap angles c.of.ensures;
     } in
-    sym c.self.view_is ∙ single_first c.self.inside.rest.now _ _ c.self.inside.taken first
-    (omega arith) c.self.invariant
-    ∙ ap (λ x. Single c.first-item.result ∷ marks x) (sym (take_rest c.self.inside.rest.now 1))
+    sym c.self.view_is
+    ∙ ap (λ l. l ++ edge_marks c.self.inside.end)
+    (single_first c.self.inside.rest.now _ _ c.self.inside.taken first (omega arith)
+    c.self.invariant)
+    ∙ ap (λ x. Single c.first-item.result ∷ (marks x ++ edge_marks c.self.inside.end))
+    (sym (take_rest c.self.inside.rest.now 1))

@@ -1,10 +1,10 @@
 ghost use Rattle.std.specs.Prelude.{◌≡◌};
-ghost use Rattle.type_expr_parser.specs.Signs.{sign_is};
+ghost use Rattle.java_grammar.specs.Signs.{sign_is};
 
+use crate::part::{ModifierWord, Pair, Part};
 use java_ast::BinOp;
-use java_grammar::{Pair, Part};
 
-/// A token that stands for itself in the grammar of types, annotations and expressions.
+/// A token that stands for itself in the grammar.
 #[derive(Clone, Copy)]
 pub enum Sign {
     Dot,
@@ -23,6 +23,20 @@ pub enum Sign {
     Class,
     Extends,
     Super,
+    And,
+    Star,
+    Minus,
+    Ellipsis,
+    Static,
+    Default,
+    Void,
+    This,
+    Interface,
+    Enum,
+    Package,
+    Import,
+    Implements,
+    Throws,
 }
 
 impl Sign {
@@ -46,6 +60,20 @@ impl Sign {
             Sign::Class => matches!(&part, Part::Class),
             Sign::Extends => matches!(&part, Part::Extends),
             Sign::Super => matches!(&part, Part::Super),
+            Sign::And => matches!(&part, Part::Binary(BinOp::And)),
+            Sign::Star => matches!(&part, Part::Binary(BinOp::Star)),
+            Sign::Minus => matches!(&part, Part::Binary(BinOp::Minus)),
+            Sign::Ellipsis => matches!(&part, Part::Ellipsis),
+            Sign::Static => matches!(&part, Part::Modifier(ModifierWord::Static)),
+            Sign::Default => matches!(&part, Part::Modifier(ModifierWord::Default)),
+            Sign::Void => matches!(&part, Part::Void),
+            Sign::This => matches!(&part, Part::This),
+            Sign::Interface => matches!(&part, Part::Interface),
+            Sign::Enum => matches!(&part, Part::Enum),
+            Sign::Package => matches!(&part, Part::Package),
+            Sign::Import => matches!(&part, Part::Import),
+            Sign::Implements => matches!(&part, Part::Implements),
+            Sign::Throws => matches!(&part, Part::Throws),
         }
     }
 }
