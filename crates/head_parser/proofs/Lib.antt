@@ -1,0 +1,10 @@
+pub mod Lists
+pub mod TypeLaws
+pub mod UnitLaws
+pub mod EachOnce
+pub mod Flags
+pub mod ModifierLaws
+pub mod FormalLists
+pub mod FormalLaws
+pub mod MethodLaws
+pub mod HeadLaws
