@@ -1,23 +1,16 @@
-//! Examples of descriptions, of class files and of what is written for them: the tests of
-//! class_desc, class_reader and class_writer, in a crate of their own, so that the proofs of
-//! those are checked once.
+//! What no row of class_rows can say of class_desc, class_reader, class_writer and ijar_strip:
+//! descriptions that no file spells, limits, and copies.
 #![tactic(auto)]
 
 #[cfg(test)]
-mod annotations;
+mod building;
 #[cfg(test)]
-mod descriptions;
+mod copies;
 #[cfg(test)]
-mod faults;
+mod long_lists;
 #[cfg(test)]
-mod limits;
+mod many_methods;
 #[cfg(test)]
-mod lists;
+mod refusals;
 #[cfg(test)]
-mod member_faults;
-#[cfg(test)]
-mod reading;
-#[cfg(test)]
-mod told;
-#[cfg(test)]
-mod writing;
+mod stripping;

@@ -1,15 +1,8 @@
-//! Examples of source texts, of tokens and of how they are cut into segments: the tests of
-//! java_token, java_text, java_lexer and segments, in a crate of their own, so that the proofs of
-//! those are checked once.
+//! What no row of source_rows can say of java_token, java_ast and java_grammar: copies, and the
+//! steps of a reader.
 #![tactic(auto)]
 
 #[cfg(test)]
-mod cuts;
+mod copies;
 #[cfg(test)]
-mod lexing;
-#[cfg(test)]
-mod sources;
-#[cfg(test)]
-mod texts;
-#[cfg(test)]
-mod tokens;
+mod reading;
