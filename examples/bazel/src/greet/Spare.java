@@ -1,0 +1,6 @@
+package greet;
+
+public class Spare {
+    public void wait(Greeter greeter) {
+    }
+}
